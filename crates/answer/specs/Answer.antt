@@ -1,0 +1,48 @@
+-- The numbers given back, by name, and what stands beside one. Document 01, "Numbers given back".
+use Prim.Native.Nat.{ℕ}
+use mathlib.Core.Bool.{Bool, false}
+use lib.Dec.{eqb}
+use lib.Ieee.{Float}
+use Rattle.float.specs.Choice.{when_then_else_}
+use Rattle.float.specs.Float.{zeroF}
+use Rattle.answer.specs.declared.Real.{Real}
+use Rattle.answer.specs.declared.YesNo.{YesNo}
+
+infixr 3 unless_refuse_else_
+-- kept, or done
+abbrev pub done : ℕ
+done = 0
+
+-- a miss of the window at any step; a vector not on the side of the asked face
+abbrev pub missed : ℕ
+missed = 1
+
+-- a float other than the window's is not finite
+abbrev pub notFinite : ℕ
+notFinite = 2
+
+-- a window side is not finite, or lo > hi on either axis
+abbrev pub badWindow : ℕ
+badWindow = 3
+
+-- the program's input ends in 1 to 63 bytes beyond whole records
+abbrev pub torn : ℕ
+torn = 9
+
+-- Refusals in their order: the first that applies gives its number, and the rest is not looked at.
+abbrev pub unless_refuse_else_ : Bool → ℕ → ℕ → ℕ
+unless fine refuse n else rest = when fine then rest else n
+
+-- What stands beside the number n: the value where n is 0, and zeros or no beside a refusal.
+unfoldable pub beside : {A : Type 0} → ℕ → A → A → A
+beside n value zero = when eqb n done then value else zero
+
+abbrev pub realAnswer : ℕ → Float → Real
+realAnswer n x = record { number = n; value = beside n x zeroF }
+
+abbrev pub yesNoAnswer : ℕ → Bool → YesNo
+yesNoAnswer n b = record { number = n; yes = beside n b false }
+
+-- modules 1 to 3 refuse floats that are not finite, and nothing else
+unfoldable pub needFinite : Bool → ℕ
+needFinite all = unless all refuse notFinite else done

@@ -1,0 +1,2 @@
+-- The numbers given back, and what stands beside one.
+pub mod Answer

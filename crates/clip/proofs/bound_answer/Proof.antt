@@ -1,0 +1,30 @@
+-- `bound_answer`: the box beside 0, or zeros beside 1.
+use Rattle.clip.proofs.Cases.{bound-inside, bound-outside}
+use mathlib.Core.Path.{_∙_}
+use borrow.Author.Needs.{needs}
+use Rattle.clip.proofs.bound_answer.Statement.{statement}
+use Rattle.clip.proofs.bound_answer.Tie as tie
+
+enum-known-cut : tie.Need-enum-known-cut
+enum-known-cut c = search needs
+
+answer-requires : tie.Need-answer-requires
+answer-requires c κs = search needs
+
+-- /work/main/target/rlib/plane.rlib/interface/lang/src/interval.rt:12:30
+enum-told : tie.Need-enum-told
+enum-told c = search needs
+
+answer-requires-2 : tie.Need-answer-requires-2
+answer-requires-2 c κs = search needs
+
+returns : tie.Need-returns
+returns c = c .answer .ensures ∙ bound-inside _ _ (cc)
+
+returns-2 : tie.Need-returns-2
+returns-2 c = c .answer2 .ensures ∙ bound-outside _ _ (cc)
+
+pub bound-answer-spec : {M : Type 1} → statement M
+bound-answer-spec =
+    tie.close
+    (tie.spec enum-known-cut answer-requires enum-told answer-requires-2 returns returns-2)

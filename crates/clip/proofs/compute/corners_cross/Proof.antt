@@ -1,0 +1,24 @@
+-- `corners_cross` is `crossed`.
+use Rattle.float.proofs.Choice.{then-is, else-is}
+use mathlib.Core.Path.{refl}
+use Rattle.clip.specs.Cut.{crossed}
+use borrow.Author.Needs.{needs}
+use Rattle.clip.proofs.compute.corners_cross.Statement.{statement}
+use Rattle.clip.proofs.compute.corners_cross.Tie as tie
+
+off-line-requires : tie.Need-off-line-requires
+off-line-requires c κs = search needs
+
+off-line-requires-2 : tie.Need-off-line-requires-2
+off-line-requires-2 c κs = search needs
+
+returns : tie.Need-returns
+unfolding crossed
+returns c = then-is _ _ _ _ (cc) (cc)
+
+returns-2 : tie.Need-returns-2
+unfolding crossed
+returns-2 c = else-is _ _ _ _ (cc) refl
+
+pub corners-cross-spec : {M : Type 1} → statement M
+corners-cross-spec = tie.close (tie.spec off-line-requires off-line-requires-2 returns returns-2)

@@ -1,0 +1,42 @@
+-- `edge_intersects_rect` is `edgeMeets`: the box test, then the corners.
+use Rattle.float.proofs.Choice.{then-is, else-is}
+use mathlib.Core.Path.{refl}
+use Rattle.clip.specs.Cut.{edgeMeets}
+use borrow.Author.Needs.{needs}
+use Rattle.clip.proofs.compute.edge_intersects_rect.Statement.{statement}
+use Rattle.clip.proofs.compute.edge_intersects_rect.Tie as tie
+
+from-points-requires : tie.Need-from-points-requires
+from-points-requires c κs = search needs
+
+intersects-requires : tie.Need-intersects-requires
+intersects-requires c κs = search needs
+
+difference-requires : tie.Need-difference-requires
+difference-requires c κs = search needs
+
+ortho-requires : tie.Need-ortho-requires
+ortho-requires c κs = search needs
+
+corners-cross-requires : tie.Need-corners-cross-requires
+corners-cross-requires c κs = search needs
+
+returns : tie.Need-returns
+unfolding edgeMeets
+returns c = then-is _ _ _ _ (cc) (rw (c .corners-cross .ensures, c .before .ortho .ensures, c .before .before .difference .ensures))
+
+returns-2 : tie.Need-returns-2
+unfolding edgeMeets
+returns-2 c = else-is _ _ _ _ (cc) refl
+
+pub edge-intersects-rect-spec : {M : Type 1} → statement M
+edge-intersects-rect-spec =
+    tie.close
+    (tie.spec
+    from-points-requires
+    intersects-requires
+    difference-requires
+    ortho-requires
+    corners-cross-requires
+    returns
+    returns-2)

@@ -1,0 +1,20 @@
+-- `edge` is `edgeRefusal`.
+use borrow.Author.Needs.{needs}
+use Rattle.clip.proofs.refuse.edge.Statement.{statement}
+use Rattle.clip.proofs.refuse.edge.Tie as tie
+
+points-fine-requires : tie.Need-points-fine-requires
+points-fine-requires c κs = search needs
+
+window-fine-requires : tie.Need-window-fine-requires
+window-fine-requires c κs = search needs
+
+in-order-requires : tie.Need-in-order-requires
+in-order-requires c κs = search needs
+
+returns : tie.Need-returns
+returns c = cc
+
+pub edge-spec : {M : Type 1} → statement M
+edge-spec =
+    tie.close (tie.spec points-fine-requires window-fine-requires in-order-requires returns)

@@ -1,0 +1,131 @@
+// What is refused, in document 01's order for the plane: 2, then 3. Each gives the number, 0 where
+// nothing is refused.
+ghost use mathlib.Core.Path.{_≡_};
+ghost use Rattle.float.specs.Choice.{_and_};
+ghost use Rattle.clip.specs.Refuse.{coordinate, side, coordinates, pointFine, boundFine, boxFine, sidesFine, windowFine, planeRefusal, valueRefusal, endRefusal, axisRefusal, boundRefusal, edgeRefusal};
+use answer::BAD_WINDOW;
+use answer::DONE;
+use answer::NOT_FINITE;
+use plane::Interval;
+use plane::Point;
+use plane::Rect;
+
+// Of an edge and a window.
+pub fn edge(a: Point, b: Point, window: Rect) -> u8
+    ensures { λ r. ⌜ r ≡ edgeRefusal a b window ⌝ }
+{
+    in_order(points_fine(a, b), window_fine(window))
+}
+
+// Of an edge, a bound and a window.
+pub fn bound(a: Point, b: Point, window: Rect, bound: Rect) -> u8
+    ensures { λ r. ⌜ r ≡ boundRefusal a b window bound ⌝ }
+{
+    in_order(
+        both(points_fine(a, b), box_fine(bound)),
+        window_fine(window),
+    )
+}
+
+// Of an axis.
+pub fn axis(
+    a0: f64,
+    b0: f64,
+    bound0: Interval,
+    a1: f64,
+    b1: f64,
+    bound1: Interval,
+    window: Interval,
+) -> u8
+    ensures { λ r. ⌜ r ≡ axisRefusal a0 b0 bound0 a1 b1 bound1 window ⌝ }
+{
+    let ends = both(coordinates(a0, b0), coordinates(a1, b1));
+    let bounds = both(bound_fine(bound0), bound_fine(bound1));
+    in_order(both(ends, bounds), sides_fine(window))
+}
+
+// Of an interval and a value.
+pub fn end(bound: Interval, value: f64) -> u8
+    ensures { λ r. ⌜ r ≡ endRefusal bound value ⌝ }
+{
+    in_order(both(bound_fine(bound), is_coordinate(value)), true)
+}
+
+// Of a line's two ends and a place on it.
+pub fn value(x: f64, a: f64, b: f64, a1: f64, b1: f64) -> u8
+    ensures { λ r. ⌜ r ≡ valueRefusal x a b a1 b1 ⌝ }
+{
+    let ends = both(coordinates(a, b), coordinates(a1, b1));
+    in_order(both(is_coordinate(x), ends), true)
+}
+
+// ---- the order, and the two predicates that it asks
+
+fn in_order(points: bool, window: bool) -> u8
+    ensures { λ r. ⌜ r ≡ planeRefusal points window ⌝ }
+{
+    if !points {
+        return NOT_FINITE;
+    }
+    if !window {
+        return BAD_WINDOW;
+    }
+    DONE
+}
+
+fn is_coordinate(x: f64) -> bool
+    ensures { λ r. ⌜ r ≡ coordinate x ⌝ }
+{
+    float::is_finite(x)
+}
+
+fn is_side(x: f64) -> bool
+    ensures { λ r. ⌜ r ≡ side x ⌝ }
+{
+    float::is_finite(x)
+}
+
+fn both(p: bool, q: bool) -> bool
+    ensures { λ r. ⌜ r ≡ (p and q) ⌝ }
+{
+    if !p {
+        return false;
+    }
+    q
+}
+
+fn coordinates(x: f64, y: f64) -> bool
+    ensures { λ r. ⌜ r ≡ coordinates x y ⌝ }
+{
+    both(is_coordinate(x), is_coordinate(y))
+}
+
+fn points_fine(a: Point, b: Point) -> bool
+    ensures { λ r. ⌜ r ≡ (pointFine a and pointFine b) ⌝ }
+{
+    both(coordinates(a.x, a.y), coordinates(b.x, b.y))
+}
+
+fn bound_fine(i: Interval) -> bool
+    ensures { λ r. ⌜ r ≡ boundFine i ⌝ }
+{
+    coordinates(i.lo, i.hi)
+}
+
+fn box_fine(r: Rect) -> bool
+    ensures { λ a. ⌜ a ≡ boxFine r ⌝ }
+{
+    both(bound_fine(r.x), bound_fine(r.y))
+}
+
+fn sides_fine(i: Interval) -> bool
+    ensures { λ r. ⌜ r ≡ sidesFine i ⌝ }
+{
+    both(both(is_side(i.lo), is_side(i.hi)), i.lo <= i.hi)
+}
+
+fn window_fine(r: Rect) -> bool
+    ensures { λ a. ⌜ a ≡ windowFine r ⌝ }
+{
+    both(sides_fine(r.x), sides_fine(r.y))
+}

@@ -1,0 +1,46 @@
+-- Parts of intervals and rectangles, and the values in them.
+use mathlib.Core.Path.{_≡_}
+use mathlib.Core.Bool.{Bool, true, false}
+use lib.Ieee.{Float, le}
+use Rattle.float.specs.Choice.{when_then_else_}
+use Rattle.float.proofs.Order.{le-num, le-refl, le-trans, between}
+use Rattle.plane.specs.Interval.{endOf}
+use Rattle.plane.specs.Within.{In, Some, Part, Ends, SomeRect, PartRect, EndsRect}
+use Rattle.plane.specs.declared.interval.Interval.{Interval}
+use Rattle.plane.specs.declared.rect.Rect.{Rect}
+
+pub in-some : (i : Interval) (x : Float) → In i x → Some i
+in-some i x h = le-trans _ _ _ (h .low) (h .high)
+
+pub part-refl : (i : Interval) → Some i → Part i i
+part-refl i h = let n = le-num _ _ h in record { some = h; low = le-refl _ (n .0); high = le-refl _ (n .1) }
+
+pub part-trans : (i j k : Interval) → Part i j → Part j k → Part i k
+part-trans i j k p q = record { some = p .some; low = le-trans _ _ _ (q .low) (p .low); high = le-trans _ _ _ (p .high) (q .high) }
+
+pub part-in : (i j : Interval) (x : Float) → Part i j → In i x → In j x
+part-in i j x p h = record { low = le-trans _ _ _ (p .low) (h .low); high = le-trans _ _ _ (h .high) (p .high) }
+
+-- a part of an interval with finite ends has finite ends
+pub part-ends : (i j : Interval) → Part i j → Ends j → Ends i
+part-ends i j p e =
+    record {
+      low = between _ _ _ (e .low) (e .high) (p .low) (le-trans _ _ _ (p .some) (p .high));
+      high = between _ _ _ (e .low) (e .high) (le-trans _ _ _ (p .low) (p .some)) (p .high);
+    }
+
+-- either end lies in it
+pub end-in : (i : Interval) (high : Bool) → Some i → In i (endOf i high)
+unfolding endOf when_then_else_
+end-in i true h = record { low = h; high = le-refl _ (le-num _ _ h .1) }
+end-in i false h = record { low = le-refl _ (le-num _ _ h .0); high = h }
+
+-- ---- the same on both axes
+pub rect-refl : (r : Rect) → SomeRect r → PartRect r r
+rect-refl r h = record { x = part-refl _ (h .x); y = part-refl _ (h .y) }
+
+pub rect-trans : (r q s : Rect) → PartRect r q → PartRect q s → PartRect r s
+rect-trans r q s p o = record { x = part-trans _ _ _ (p .x) (o .x); y = part-trans _ _ _ (p .y) (o .y) }
+
+pub rect-ends : (r q : Rect) → PartRect r q → EndsRect q → EndsRect r
+rect-ends r q p e = record { x = part-ends _ _ (p .x) (e .x); y = part-ends _ _ (p .y) (e .y) }

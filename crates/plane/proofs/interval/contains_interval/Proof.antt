@@ -1,0 +1,29 @@
+-- The entry `interval::contains_interval`: the method of that name, beside the number of what is refused.
+use borrow.Author.Needs.{needs}
+use Rattle.plane.proofs.interval.contains_interval.Statement.{statement}
+use Rattle.plane.proofs.interval.contains_interval.Tie as tie
+
+both-finite-requires : tie.Need-both-finite-requires
+both-finite-requires c κs = search needs
+
+need-finite-requires : tie.Need-need-finite-requires
+need-finite-requires c κs = search needs
+
+contains-interval-requires : tie.Need-contains-interval-requires
+contains-interval-requires c κs = search needs
+
+answer-requires : tie.Need-answer-requires
+answer-requires c κs = search needs
+
+returns : tie.Need-returns
+returns c = cc
+
+pub contains-interval-spec : {M : Type 1} → statement M
+contains-interval-spec =
+    tie.close
+    (tie.spec
+    both-finite-requires
+    need-finite-requires
+    contains-interval-requires
+    answer-requires
+    returns)

@@ -1,0 +1,20 @@
+-- `point::both_finite` asks one, then the other.
+use Rattle.float.proofs.Choice.{denies}
+use borrow.Author.Needs.{needs}
+use Rattle.plane.proofs.point.both_finite.Statement.{statement}
+use Rattle.plane.proofs.point.both_finite.Tie as tie
+
+is-finite-requires : tie.Need-is-finite-requires
+is-finite-requires c κs = search needs
+
+returns : tie.Need-returns
+returns c = search (needs, denies)
+
+is-finite-requires-2 : tie.Need-is-finite-requires-2
+is-finite-requires-2 c κs = search needs
+
+returns-2 : tie.Need-returns-2
+returns-2 c = search (needs, denies)
+
+pub both-finite-spec : {M : Type 1} → statement M
+both-finite-spec = tie.close (tie.spec is-finite-requires returns is-finite-requires-2 returns-2)

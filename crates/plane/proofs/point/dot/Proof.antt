@@ -1,0 +1,24 @@
+-- The entry `point::dot`: the method of that name, beside the number of what is refused.
+use borrow.Author.Needs.{needs}
+use Rattle.plane.proofs.point.dot.Statement.{statement}
+use Rattle.plane.proofs.point.dot.Tie as tie
+
+both-finite-requires : tie.Need-both-finite-requires
+both-finite-requires c κs = search needs
+
+need-finite-requires : tie.Need-need-finite-requires
+need-finite-requires c κs = search needs
+
+dot-requires : tie.Need-dot-requires
+dot-requires c κs = search needs
+
+answer-requires : tie.Need-answer-requires
+answer-requires c κs = search needs
+
+returns : tie.Need-returns
+returns c = cc
+
+pub dot-spec : {M : Type 1} → statement M
+dot-spec =
+    tie.close
+    (tie.spec both-finite-requires need-finite-requires dot-requires answer-requires returns)

@@ -1,0 +1,24 @@
+-- The entry `point::ortho`: the method of that name, beside the number of what is refused.
+use borrow.Author.Needs.{needs}
+use Rattle.plane.proofs.point.ortho.Statement.{statement}
+use Rattle.plane.proofs.point.ortho.Tie as tie
+
+is-finite-requires : tie.Need-is-finite-requires
+is-finite-requires c κs = search needs
+
+need-finite-requires : tie.Need-need-finite-requires
+need-finite-requires c κs = search needs
+
+ortho-requires : tie.Need-ortho-requires
+ortho-requires c κs = search needs
+
+answer-requires : tie.Need-answer-requires
+answer-requires c κs = search needs
+
+returns : tie.Need-returns
+returns c = cc
+
+pub ortho-spec : {M : Type 1} → statement M
+ortho-spec =
+    tie.close
+    (tie.spec is-finite-requires need-finite-requires ortho-requires answer-requires returns)

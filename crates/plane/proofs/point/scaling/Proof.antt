@@ -1,0 +1,24 @@
+-- The entry `point::scaling`: the method of that name, beside the number of what is refused.
+use borrow.Author.Needs.{needs}
+use Rattle.plane.proofs.point.scaling.Statement.{statement}
+use Rattle.plane.proofs.point.scaling.Tie as tie
+
+finite-with-requires : tie.Need-finite-with-requires
+finite-with-requires c κs = search needs
+
+need-finite-requires : tie.Need-need-finite-requires
+need-finite-requires c κs = search needs
+
+scaling-requires : tie.Need-scaling-requires
+scaling-requires c κs = search needs
+
+answer-requires : tie.Need-answer-requires
+answer-requires c κs = search needs
+
+returns : tie.Need-returns
+returns c = cc
+
+pub scaling-spec : {M : Type 1} → statement M
+scaling-spec =
+    tie.close
+    (tie.spec finite-with-requires need-finite-requires scaling-requires answer-requires returns)

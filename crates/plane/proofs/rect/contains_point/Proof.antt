@@ -1,0 +1,29 @@
+-- The entry `rect::contains_point`: the method of that name, beside the number of what is refused.
+use borrow.Author.Needs.{needs}
+use Rattle.plane.proofs.rect.contains_point.Statement.{statement}
+use Rattle.plane.proofs.rect.contains_point.Tie as tie
+
+finite-with-requires : tie.Need-finite-with-requires
+finite-with-requires c κs = search needs
+
+need-finite-requires : tie.Need-need-finite-requires
+need-finite-requires c κs = search needs
+
+contains-point-requires : tie.Need-contains-point-requires
+contains-point-requires c κs = search needs
+
+answer-requires : tie.Need-answer-requires
+answer-requires c κs = search needs
+
+returns : tie.Need-returns
+returns c = cc
+
+pub contains-point-spec : {M : Type 1} → statement M
+contains-point-spec =
+    tie.close
+    (tie.spec
+    finite-with-requires
+    need-finite-requires
+    contains-point-requires
+    answer-requires
+    returns)

@@ -1,0 +1,29 @@
+-- The entry `rect::from_points`: the method of that name, beside the number of what is refused.
+use borrow.Author.Needs.{needs}
+use Rattle.plane.proofs.rect.from_points.Statement.{statement}
+use Rattle.plane.proofs.rect.from_points.Tie as tie
+
+both-finite-requires : tie.Need-both-finite-requires
+both-finite-requires c κs = search needs
+
+need-finite-requires : tie.Need-need-finite-requires
+need-finite-requires c κs = search needs
+
+from-points-requires : tie.Need-from-points-requires
+from-points-requires c κs = search needs
+
+answer-requires : tie.Need-answer-requires
+answer-requires c κs = search needs
+
+returns : tie.Need-returns
+returns c = cc
+
+pub from-points-spec : {M : Type 1} → statement M
+from-points-spec =
+    tie.close
+    (tie.spec
+    both-finite-requires
+    need-finite-requires
+    from-points-requires
+    answer-requires
+    returns)

@@ -1,0 +1,29 @@
+-- The entry `rect::intersection`: the method of that name, beside the number of what is refused.
+use borrow.Author.Needs.{needs}
+use Rattle.plane.proofs.rect.intersection.Statement.{statement}
+use Rattle.plane.proofs.rect.intersection.Tie as tie
+
+both-finite-requires : tie.Need-both-finite-requires
+both-finite-requires c κs = search needs
+
+need-finite-requires : tie.Need-need-finite-requires
+need-finite-requires c κs = search needs
+
+intersection-requires : tie.Need-intersection-requires
+intersection-requires c κs = search needs
+
+answer-requires : tie.Need-answer-requires
+answer-requires c κs = search needs
+
+returns : tie.Need-returns
+returns c = cc
+
+pub intersection-spec : {M : Type 1} → statement M
+intersection-spec =
+    tie.close
+    (tie.spec
+    both-finite-requires
+    need-finite-requires
+    intersection-requires
+    answer-requires
+    returns)

@@ -1,0 +1,159 @@
+// Points of the plane.
+ghost use mathlib.Core.Path.{_≡_};
+ghost use Rattle.float.specs.Choice.{_and_};
+ghost use Rattle.float.specs.Float.{finite};
+ghost use Rattle.answer.specs.Answer.{needFinite, realAnswer};
+ghost use Rattle.plane.specs.Point.{at, sumOf, differenceOf, scaledBy, orthoOf, dotOf, crossOf, finitePoint};
+ghost use Rattle.plane.specs.Answers.{pointAnswer};
+use answer::DONE;
+use answer::Real;
+use answer::need_finite;
+
+pub struct Point {
+    pub x: f64,
+    pub y: f64,
+}
+
+// A point beside 0, or the origin beside a refusal.
+pub struct PointAnswer {
+    pub number: u8,
+    pub point: Point,
+}
+
+// The point at x, y.
+pub fn new(x: f64, y: f64) -> PointAnswer
+    ensures { λ r. ⌜ r ≡ pointAnswer (needFinite (finite x and finite y)) (at x y) ⌝ }
+{
+    let p = Point { x, y };
+    PointAnswer::answer(need_finite(p.is_finite()), p)
+}
+
+// The point a quarter turn against the clock from p.
+pub fn ortho(p: Point) -> PointAnswer
+    ensures { λ r. ⌜ r ≡ pointAnswer (needFinite (finitePoint p)) (orthoOf p) ⌝ }
+{
+    PointAnswer::answer(need_finite(p.is_finite()), p.ortho())
+}
+
+pub fn dot(p: Point, q: Point) -> Real
+    ensures { λ r. ⌜ r ≡ realAnswer (needFinite (finitePoint p and finitePoint q)) (dotOf p q) ⌝ }
+{
+    Real::answer(need_finite(both_finite(p, q)), p.dot(q))
+}
+
+pub fn cross(p: Point, q: Point) -> Real
+    ensures { λ r. ⌜ r ≡ realAnswer (needFinite (finitePoint p and finitePoint q)) (crossOf p q) ⌝ }
+{
+    Real::answer(need_finite(both_finite(p, q)), p.cross(q))
+}
+
+pub fn sum(p: Point, q: Point) -> PointAnswer
+    ensures { λ r. ⌜ r ≡ pointAnswer (needFinite (finitePoint p and finitePoint q)) (sumOf p q) ⌝ }
+{
+    PointAnswer::answer(need_finite(both_finite(p, q)), p.sum(q))
+}
+
+pub fn difference(p: Point, q: Point) -> PointAnswer
+    ensures { λ r. ⌜ r ≡ pointAnswer (needFinite (finitePoint p and finitePoint q)) (differenceOf p q) ⌝ }
+{
+    PointAnswer::answer(need_finite(both_finite(p, q)), p.difference(q))
+}
+
+pub fn scaling(p: Point, factor: f64) -> PointAnswer
+    ensures { λ r. ⌜ r ≡ pointAnswer (needFinite (finitePoint p and finite factor)) (scaledBy p factor) ⌝ }
+{
+    PointAnswer::answer(need_finite(finite_with(p, factor)), p.scaling(factor))
+}
+
+// ---- what computes
+
+impl Point {
+    pub fn ortho(self) -> Point
+        ensures { λ r. ⌜ r ≡ orthoOf self ⌝ }
+    {
+        Point {
+            x: -self.y,
+            y: self.x,
+        }
+    }
+
+    pub fn dot(self, other: Point) -> f64
+        ensures { λ r. ⌜ r ≡ dotOf self other ⌝ }
+    {
+        self.x * other.x + self.y * other.y
+    }
+
+    pub fn cross(self, other: Point) -> f64
+        ensures { λ r. ⌜ r ≡ crossOf self other ⌝ }
+    {
+        self.x * other.y - self.y * other.x
+    }
+
+    pub fn sum(self, other: Point) -> Point
+        ensures { λ r. ⌜ r ≡ sumOf self other ⌝ }
+    {
+        Point {
+            x: self.x + other.x,
+            y: self.y + other.y,
+        }
+    }
+
+    pub fn difference(self, other: Point) -> Point
+        ensures { λ r. ⌜ r ≡ differenceOf self other ⌝ }
+    {
+        Point {
+            x: self.x - other.x,
+            y: self.y - other.y,
+        }
+    }
+
+    pub fn scaling(self, factor: f64) -> Point
+        ensures { λ r. ⌜ r ≡ scaledBy self factor ⌝ }
+    {
+        Point {
+            x: self.x * factor,
+            y: self.y * factor,
+        }
+    }
+
+    pub fn is_finite(self) -> bool
+        ensures { λ r. ⌜ r ≡ finitePoint self ⌝ }
+    {
+        if !float::is_finite(self.x) {
+            return false;
+        }
+        float::is_finite(self.y)
+    }
+}
+
+impl PointAnswer {
+    pub fn answer(number: u8, point: Point) -> Self
+        ensures { λ r. ⌜ r ≡ pointAnswer number point ⌝ }
+    {
+        if number == DONE {
+            return PointAnswer { number, point };
+        }
+        PointAnswer {
+            number,
+            point: Point { x: 0.0, y: 0.0 },
+        }
+    }
+}
+
+pub fn both_finite(p: Point, q: Point) -> bool
+    ensures { λ r. ⌜ r ≡ (finitePoint p and finitePoint q) ⌝ }
+{
+    if !p.is_finite() {
+        return false;
+    }
+    q.is_finite()
+}
+
+fn finite_with(p: Point, x: f64) -> bool
+    ensures { λ r. ⌜ r ≡ (finitePoint p and finite x) ⌝ }
+{
+    if !p.is_finite() {
+        return false;
+    }
+    float::is_finite(x)
+}
