@@ -2,3 +2,4 @@
 pub mod Cut
 pub mod Refuse
 pub mod Answers
+pub mod Promises

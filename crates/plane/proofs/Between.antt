@@ -49,3 +49,15 @@ a-end a b = go (lt b a) (lt a b)
     go true q = refl
     go false true = refl
     go false false = refl
+
+pub b-end : (a b : Float) → Num a → Num b → (endOf (between a b) (not (lt b a)) ≡ b) ⊎ ((endOf (between a b) (not (lt b a)) ≡ a) × (eq a b ≡ true))
+unfolding between endOf when_then_else_
+b-end a b m n = go (lt b a) (lt a b) refl refl
+  where
+    end : Bool → Bool → Float
+    end p q = when not p then (when p then from b to a else when q then from a to b else from a to a) .hi else (when p then from b to a else when q then from a to b else from a to a) .lo
+
+    go : (p q : Bool) → lt b a ≡ p → lt a b ≡ q → (end p q ≡ b) ⊎ ((end p q ≡ a) × (eq a b ≡ true))
+    go true q e f = inl refl
+    go false true e f = inl refl
+    go false false e f = inr (refl, le-eq a b (not-lt b a n m e) (not-lt a b m n f))

@@ -1,0 +1,54 @@
+-- Bytes stored one after the other.
+use Prim.Native.Nat.{ℕ, zero, suc, _+_, _-_, _*_, _/_, _%_, _^_, _≤_, _<_}
+use native.Mathlib.Nat.{add-zero}
+use native.Mathlib.Omega.{arith}
+use native.Mathlib.Numerals.{add-one}
+use mathlib.Core.Path.{_≡_, refl, sym, ap, _∙_}
+use mathlib.Core.List.{List, [], _∷_, _++_}
+use lib.ListN.{length, set, length-set}
+use Rattle.float.proofs.Choice.{when-le, when-gt}
+use Rattle.buffer.specs.Bytes.{stored, placed}
+use Rattle.buffer.specs.Digits.{digitOf, hex, group}
+
+pub length-stored : (xs : List ℕ) (p : ℕ) (bs : List ℕ) → length (stored xs p bs) ≡ length xs
+unfolding stored
+length-stored xs p [] = refl
+length-stored xs p (b ∷ bs) = length-stored (set xs p b) (p + 1) bs ∙ simp length-set
+
+-- one run after another is one run
+pub stored-join : (xs : List ℕ) (p : ℕ) (cs bs : List ℕ) → stored (stored xs p cs) (p + length cs) bs ≡ stored xs p (cs ++ bs)
+unfolding stored
+stored-join xs p [] bs = rw add-zero
+stored-join xs p (a ∷ cs) bs =
+    let e : p + suc (length cs) ≡ p + 1 + length cs = omega arith in
+    rw e (stored-join (set xs p a) (p + 1) cs bs)
+
+module _ (xs : List ℕ) (p : ℕ) (bs : List ℕ) where
+  pub placed-fits : p + length bs ≤ length xs → stored xs p bs ≡ placed xs p bs
+  unfolding placed
+  placed-fits h = when-le _ _ _ _ _ h refl
+
+  pub placed-not : length xs < p + length bs → xs ≡ placed xs p bs
+  unfolding placed
+  placed-not h = when-gt _ _ _ _ _ h refl
+
+-- ---- digits
+pub length-hex : (k n : ℕ) → length (hex k n) ≡ k
+unfolding hex
+length-hex zero n = refl
+length-hex (suc k) n = ap suc (length-hex k n)
+
+pub length-group : (n : ℕ) → length (group n) ≡ 17
+unfolding group
+length-group n = ap suc (length-hex 16 n)
+
+-- the highest of k + 1 digits, stored, leaves the k others
+pub hex-step : (xs : List ℕ) (p k n : ℕ) → 0 < k → stored xs p (hex k n) ≡ stored (set xs p (digitOf (n / 2 ^ (4 * (k - 1)) % 16))) (p + 1) (hex (k - 1) n)
+unfolding stored hex
+hex-step xs p (suc k) n h = let e : suc k - 1 ≡ k = omega arith in rw e
+
+-- no digit is left: the run that began with a space is a group, whole
+pub group-done : (xs out : List ℕ) (p to k n : ℕ) → k ≤ 0 → p + 17 ≤ length xs → stored out to (hex k n) ≡ stored (set xs p 32) (p + 1) (hex 16 n) → out ≡ placed xs p (group n)
+unfolding stored hex group
+group-done xs out p to zero n h l e = e ∙ placed-fits xs p (group n) (omega (arith, length-group n))
+group-done xs out p to (suc k) n h l e = absurd (omega arith)

@@ -1,0 +1,3 @@
+-- Words in bytes, and bytes in a lent buffer.
+pub mod Bytes
+pub mod Digits

@@ -1,0 +1,2 @@
+-- Laws of the lines that the proofs of this crate cite.
+pub mod Text
