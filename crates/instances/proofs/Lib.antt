@@ -1,0 +1,2 @@
+-- The instances, computed.
+pub mod Instances

@@ -1,0 +1,3 @@
+-- Document 01's instances.
+pub mod Numbers
+pub mod Instances

@@ -1,0 +1,119 @@
+//! Finds the crate's sources, so that the compiler reads them where they are: this repository holds no copy.
+
+use std::path::{Path, PathBuf};
+use std::{env, fs, process};
+
+/// The file whose private functions are asked, so that it needs a child module of ours.
+const EDGE_CLIPPING: &str = "s2/edge_clipping.rs";
+
+/// The head of its loop from face to face.
+const WALK: &str = "while face != b_face ";
+
+/// The files that it needs, and those that these need.
+const MODULES: [&str; 11] = [
+    "consts.rs",
+    "r1/interval.rs",
+    "r2/point.rs",
+    "r2/rect.rs",
+    "r3/vector.rs",
+    "s1/angle.rs",
+    "s2/cellid.rs",
+    "s2/latlng.rs",
+    "s2/point.rs",
+    "s2/predicates.rs",
+    "s2/stuv.rs",
+];
+
+fn main() {
+    println!("cargo:rerun-if-env-changed=S2_SRC");
+    println!("cargo:rerun-if-changed=build.rs");
+    let sources = find_sources();
+    for file in MODULES {
+        declare_module(file, &find(&sources, file));
+    }
+    let edge_clipping = find(&sources, EDGE_CLIPPING);
+    println!("cargo:rustc-env=EDGE_CLIPPING={}", text(&edge_clipping));
+    cut_out_walk(&edge_clipping);
+}
+
+/// The folder `src` of the crate. A relative S2_SRC is taken from this package's folder, where cargo runs this program.
+fn find_sources() -> PathBuf {
+    let package = PathBuf::from(env::var_os("CARGO_MANIFEST_DIR").expect("cargo sets it"));
+    let named = env::var_os("S2_SRC").filter(|named| !named.is_empty());
+    let named = named.unwrap_or_else(|| "../../shared/docs/src".into());
+    let sources = package.join(named).join("src");
+    sources.canonicalize().unwrap_or(sources)
+}
+
+fn find(sources: &Path, file: &str) -> PathBuf {
+    let path = sources.join(file);
+    if !path.is_file() {
+        give_up(&format!(
+            "There is no {}: set the environment variable S2_SRC to the folder of the crate s2 0.2.0 (it holds src/).",
+            path.display()
+        ));
+    }
+    println!("cargo:rerun-if-changed={}", path.display());
+    path
+}
+
+/// Writes the line that makes a module of a file where it stands. A path in such a line has to be spelled out, so it
+/// cannot be in our own sources; `include!` would do without it, but admits no file that opens with a comment on its
+/// whole module, as some do. `consts.rs` has macros for its siblings, hence `macro_use`.
+fn declare_module(file: &str, path: &Path) {
+    let name = Path::new(file).file_stem().and_then(|name| name.to_str()).expect("a name in MODULES");
+    write_out(file, &format!("#[macro_use]\n#[path = {:?}]\npub mod {name};\n", text(path)));
+}
+
+/// Writes the body of the crate's walk from face to face, from its opening brace to its closing one, byte for byte:
+/// the crate's loop may never end, so it is run under a loop of ours.
+fn cut_out_walk(edge_clipping: &Path) {
+    let source = fs::read_to_string(edge_clipping).expect("the file was just found");
+    match source.split_once(WALK) {
+        Some((_, rest)) if !rest.contains(WALK) => write_out("walk_body.rs", block(rest)),
+        _ => give_up(&format!(
+            "{WALK:?} does not stand once in {}: the environment variable S2_SRC has to name the crate s2 0.2.0.",
+            edge_clipping.display()
+        )),
+    }
+}
+
+/// The block that the text begins with. Braces in a comment would not count.
+fn block(text: &str) -> &str {
+    let (mut depth, mut end) = (0, 0);
+    for line in text.split_inclusive('\n') {
+        let code = line.split("//").next().unwrap_or(line);
+        for (place, character) in code.char_indices() {
+            match character {
+                '{' => depth += 1,
+                '}' => depth -= 1,
+                _ => continue,
+            }
+            if depth == 0 {
+                return &text[..end + place + 1];
+            }
+        }
+        end += line.len();
+    }
+    give_up("The crate's loop from face to face does not end: the environment variable S2_SRC names another text.")
+}
+
+fn write_out(file: &str, contents: &str) {
+    let path = PathBuf::from(env::var_os("OUT_DIR").expect("cargo sets it")).join(file);
+    let written = fs::create_dir_all(path.parent().expect("OUT_DIR")).and_then(|()| fs::write(&path, contents));
+    if let Err(error) = written {
+        give_up(&format!("{}: {error}", path.display()));
+    }
+}
+
+fn text(path: &Path) -> &str {
+    match path.to_str() {
+        Some(text) => text,
+        None => give_up("The path in the environment variable S2_SRC is not UTF-8."),
+    }
+}
+
+fn give_up(sentence: &str) -> ! {
+    eprintln!("{sentence}");
+    process::exit(1)
+}

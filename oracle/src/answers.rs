@@ -1,0 +1,99 @@
+//! `oracle answers`: the line that the answering program has to give for each request.
+
+use crate::number::{Answer, Number, DONE, NO_SUCH_OPERATION};
+use crate::stream::{answer_records, hex, words, write_line};
+use crate::words::{shown, Arguments};
+use crate::{clip, cube, line, plane, walk};
+use std::io::{self, Write};
+
+/// Words of a request: the operation, then its arguments.
+pub const REQUEST: usize = 24;
+
+/// No walk is asked with a longer buffer.
+const BUFFER: usize = 400;
+
+/// What every byte of a buffer is before the walk.
+const UNTOUCHED: u8 = 0xa5;
+
+pub fn run() -> io::Result<()> {
+    answer_records(|record: &[u8; 8 * REQUEST], output| answer(&words(record), output))
+}
+
+pub fn answer(request: &[u64; REQUEST], output: &mut impl Write) -> io::Result<()> {
+    let (operation, arguments) = (request[0], &mut Arguments::new(&request[1..]));
+    if operation == 60 {
+        write_walk(arguments, output)
+    } else {
+        write_line(output, &results(operation, arguments))
+    }
+}
+
+/// Rust takes arguments from left to right, so each function's own signature reads the request.
+fn results(operation: u64, a: &mut Arguments) -> Answer<Vec<u64>> {
+    match operation {
+        1 => shown(plane::sum(a.take(), a.take())),
+        2 => shown(plane::difference(a.take(), a.take())),
+        3 => shown(plane::scaling(a.take(), a.take())),
+        4 => shown(plane::ortho(a.take())),
+        5 => shown(plane::dot(a.take(), a.take())),
+        6 => shown(plane::cross(a.take(), a.take())),
+        7 => shown(plane::new(a.take(), a.take())),
+        10 => shown(plane::interval_is_empty(a.take())),
+        11 => shown(plane::interval_holds(a.take(), a.take())),
+        12 => shown(plane::interval_contains(a.take(), a.take())),
+        13 => shown(plane::interval_intersects(a.take(), a.take())),
+        14 => shown(plane::interval_union(a.take(), a.take())),
+        15 => shown(plane::interval_intersection(a.take(), a.take())),
+        17 => shown(plane::interval_of(a.take(), a.take())),
+        19 => shown(plane::empty_rect()),
+        20 => shown(plane::box_of(a.take(), a.take())),
+        21 => shown(plane::vertices(a.take())),
+        22 => shown(plane::vertex_ij(a.take(), a.take(), a.take())),
+        23 => shown(plane::lo_and_hi(a.take())),
+        24 => shown(plane::is_empty(a.take())),
+        25 => shown(plane::contains_point(a.take(), a.take())),
+        26 => shown(plane::contains(a.take(), a.take())),
+        27 => shown(plane::intersects(a.take(), a.take())),
+        28 => shown(plane::union(a.take(), a.take())),
+        29 => shown(plane::intersection(a.take(), a.take())),
+        30 => shown(clip::interpolate(a.take(), a.take(), a.take(), a.take(), a.take())),
+        31 => shown(clip::update_endpoint(a.take(), a.take(), a.take())),
+        32 => {
+            shown(clip::clip_bound_axis(a.take(), a.take(), a.take(), a.take(), a.take(), a.take(), a.take(), a.take()))
+        }
+        33 => shown(clip::clip_edge_bound(a.take(), a.take(), a.take(), a.take())),
+        34 => shown(clip::clip_edge(a.take(), a.take(), a.take())),
+        35 => shown(clip::edge_intersects_rect(a.take(), a.take(), a.take())),
+        40 => shown(cube::face(a.take())),
+        41 => shown(cube::xyz_to_face_uv(a.take())),
+        42 => shown(cube::face_xyz_to_uv(a.take(), a.take())),
+        43 => shown(cube::face_uv_to_xyz(a.take(), a.take(), a.take())),
+        44 => shown(cube::face_xyz_to_uvw(a.take(), a.take())),
+        45 => shown(cube::uvw_face(a.take(), a.take(), a.take())),
+        46 => shown(cube::u_axis(a.take())),
+        47 => shown(cube::v_axis(a.take())),
+        48 => shown(cube::unorm(a.take(), a.take())),
+        49 => shown(cube::vnorm(a.take(), a.take())),
+        50 => shown(line::sum_equal(a.take(), a.take(), a.take())),
+        51 => shown(line::intersects_face(a.take())),
+        52 => shown(line::intersects_opposite_edges(a.take())),
+        53 => shown(line::exit_axis(a.take())),
+        54 => shown(line::exit_point(a.take(), a.take())),
+        55 => shown(line::next_face(a.take(), a.take(), a.take(), a.take(), a.take())),
+        _ => Err(NO_SUCH_OPERATION),
+    }
+}
+
+/// A walk's line shows the whole buffer, whatever the number: what was written and what was left alone.
+fn write_walk(a: &mut Arguments, output: &mut impl Write) -> io::Result<()> {
+    let (face, start, target, end, normal) = (a.take(), a.take(), a.take(), a.take(), a.take());
+    let length = a.take::<u64>().min(BUFFER as u64) as usize;
+    let mut buffer = [UNTOUCHED; BUFFER];
+    let buffer = &mut buffer[..length];
+    let (number, count): (Number, usize) = match walk::walk(face, start, target, end, normal, buffer) {
+        Ok(count) => (DONE, count),
+        Err(number) => (number, 0),
+    };
+    let space = if buffer.is_empty() { "" } else { " " };
+    writeln!(output, "{number} {count:016x}{space}{}", hex(buffer))
+}

@@ -1,0 +1,69 @@
+//! Document 01's module 4, cutting to a window: its refusals in order, then the crate.
+
+use crate::finite::{admit_finite, Finite};
+use crate::number::{Answer, BAD_WINDOW, MISSED};
+use crate::r1::interval::Interval;
+use crate::r2::{point::Point, rect::Rect};
+use crate::s2::edge_clipping::{self, private};
+
+/// A float that is not the window's is refused before the window is looked at.
+fn admit(floats: &[&dyn Finite], window: &[Interval]) -> Answer<()> {
+    admit_finite(floats)?;
+    if window.iter().all(|sides| sides.finite() && sides.lo <= sides.hi) {
+        Ok(())
+    } else {
+        Err(BAD_WINDOW)
+    }
+}
+
+pub fn interpolate(x: f64, a: f64, b: f64, a1: f64, b1: f64) -> Answer<f64> {
+    admit(&[&x, &a, &b, &a1, &b1], &[])?;
+    Ok(private::interpolate(x, a, b, a1, b1))
+}
+
+pub fn update_endpoint(bound: Interval, high: bool, value: f64) -> Answer<Interval> {
+    admit(&[&bound, &value], &[])?;
+    match private::update_endpoint(bound, high, value) {
+        (moved, true) => Ok(moved),
+        (_, false) => Err(MISSED),
+    }
+}
+
+#[allow(clippy::too_many_arguments)]
+pub fn clip_bound_axis(
+    a0: f64,
+    b0: f64,
+    bound0: Interval,
+    a1: f64,
+    b1: f64,
+    bound1: Interval,
+    negative_slope: bool,
+    window: Interval,
+) -> Answer<(Interval, Interval)> {
+    admit(&[&a0, &b0, &bound0, &a1, &b1, &bound1], &[window])?;
+    match private::clip_bound_axis(a0, b0, bound0, a1, b1, bound1, negative_slope, window) {
+        (kept0, kept1, true) => Ok((kept0, kept1)),
+        (_, _, false) => Err(MISSED),
+    }
+}
+
+pub fn clip_edge_bound(a: Point, b: Point, window: Rect, bound: Rect) -> Answer<Rect> {
+    admit(&[&a, &b, &bound], &[window.x, window.y])?;
+    match private::clip_edge_bound(a, b, window, bound) {
+        (kept, true) => Ok(kept),
+        (_, false) => Err(MISSED),
+    }
+}
+
+pub fn clip_edge(a: Point, b: Point, window: Rect) -> Answer<(Point, Point)> {
+    admit(&[&a, &b], &[window.x, window.y])?;
+    match edge_clipping::clip_edge(a, b, window) {
+        (kept_a, kept_b, true) => Ok((kept_a, kept_b)),
+        (_, _, false) => Err(MISSED),
+    }
+}
+
+pub fn edge_intersects_rect(a: Point, b: Point, window: Rect) -> Answer<bool> {
+    admit(&[&a, &b], &[window.x, window.y])?;
+    Ok(private::edge_intersects_rect(a, b, &window))
+}

@@ -1,0 +1,106 @@
+//! Doors to the private functions of the crate's edge clipping, under their own names and with nothing added.
+//! The crate wraps a normal as a point of the sphere and has an axis that is private: both stay in here.
+
+// The parent's silence is for the crate's text, not for ours.
+#![warn(unused)]
+
+use super::FaceSegment;
+use crate::line::Axis;
+use crate::number::{Answer, FACE_MISSED, TARGET_NOT_REACHED};
+use crate::point::Point;
+use crate::r1::interval::Interval;
+use crate::r2::{self, rect::Rect};
+use crate::r3::vector::Vector;
+
+pub fn interpolate(x: f64, a: f64, b: f64, a1: f64, b1: f64) -> f64 {
+    super::interpolate(x, a, b, a1, b1)
+}
+
+pub fn update_endpoint(bound: Interval, high: bool, value: f64) -> (Interval, bool) {
+    super::update_endpoint(bound, high, value)
+}
+
+#[allow(clippy::too_many_arguments)]
+pub fn clip_bound_axis(
+    a0: f64,
+    b0: f64,
+    bound0: Interval,
+    a1: f64,
+    b1: f64,
+    bound1: Interval,
+    negative_slope: bool,
+    window: Interval,
+) -> (Interval, Interval, bool) {
+    super::clip_bound_axis(a0, b0, bound0, a1, b1, bound1, negative_slope, window)
+}
+
+pub fn clip_edge_bound(a: r2::point::Point, b: r2::point::Point, window: Rect, bound: Rect) -> (Rect, bool) {
+    super::clip_edge_bound(a, b, window, bound)
+}
+
+pub fn edge_intersects_rect(a: r2::point::Point, b: r2::point::Point, window: &Rect) -> bool {
+    super::edge_intersects_rect(a, b, window)
+}
+
+pub fn sum_equal(u: f64, v: f64, w: f64) -> bool {
+    super::sum_equal(u, v, w)
+}
+
+pub fn intersects_face(normal: Vector) -> bool {
+    Point(normal).intersects_face()
+}
+
+pub fn intersects_opposite_edges(normal: Vector) -> bool {
+    Point(normal).intersects_opposite_edges()
+}
+
+pub fn exit_axis(normal: Vector) -> Axis {
+    match Point(normal).exit_axis() {
+        super::Axis::AxisU => Axis::U,
+        super::Axis::AxisV => Axis::V,
+    }
+}
+
+pub fn exit_point(normal: Vector, axis: Axis) -> r2::point::Point {
+    Point(normal).exit_point(private_axis(axis))
+}
+
+pub fn next_face(face: u8, exit: r2::point::Point, axis: Axis, normal: Vector, target: u8) -> u8 {
+    super::next_face(face, exit, private_axis(axis), Point(normal), target)
+}
+
+fn private_axis(axis: Axis) -> super::Axis {
+    match axis {
+        Axis::U => super::Axis::AxisU,
+        Axis::V => super::Axis::AxisV,
+    }
+}
+
+/// The crate's walk over at most `limit` faces, from point `a` on the first face to point `b` on the target. Document
+/// 01's face test and limit come before each turn; the turn itself is the body of the crate's loop, cut out of its text.
+pub fn walk(
+    mut face: u8,
+    a: r2::point::Point,
+    target: u8,
+    b: r2::point::Point,
+    normal: Vector,
+    limit: usize,
+) -> Answer<Vec<FaceSegment>> {
+    // The names that the body uses.
+    use super::{next_face, stuv, PointUVW};
+    let (ab, b_face) = (Point(normal), target);
+    let mut segment = FaceSegment { face, a, b };
+    let mut segments = Vec::new();
+    while face != b_face {
+        if !stuv::face_xyz_to_uvw(face, &ab).intersects_face() {
+            return Err(FACE_MISSED);
+        }
+        if segments.len() + 1 == limit {
+            return Err(TARGET_NOT_REACHED);
+        }
+        include!(concat!(env!("OUT_DIR"), "/walk_body.rs"))
+    }
+    segment.b = b;
+    segments.push(segment);
+    Ok(segments)
+}

@@ -1,0 +1,112 @@
+//! Floats worth asking about, by family. Numbers that are to meet each other come from the same family.
+
+use crate::random::Random;
+
+#[derive(Clone, Copy)]
+pub enum Family {
+    /// Uniform in -1..1.
+    Unit,
+    /// Uniform in -1000..1000.
+    Thousand,
+    /// Whole, -4 to 4.
+    Whole,
+    /// Tenths from -2 to 2, most of them not exact.
+    Tenths,
+    /// About 1.
+    Powers,
+    /// 2^1020 up to the greatest float: sums and differences overflow.
+    Huge,
+    /// About 2^512: products overflow.
+    Large,
+    /// About 2^-537: products are subnormal or vanish.
+    Small,
+    /// About 2^-1022, where subnormals begin.
+    Least,
+    /// 0 to 16 steps of 2^-1074.
+    Steps,
+    /// The bits of any finite float.
+    Bits,
+}
+
+use Family::*;
+
+impl Family {
+    /// The ordinary families come more often than the ends of the range.
+    pub fn any(random: &mut Random) -> Family {
+        if random.once_in(3) {
+            random.pick(&[Huge, Large, Small, Least, Steps, Bits])
+        } else {
+            random.pick(&[Unit, Unit, Thousand, Whole, Whole, Tenths, Powers])
+        }
+    }
+
+    pub fn draw(self, random: &mut Random) -> f64 {
+        let magnitude = match self {
+            Unit => random.fraction(),
+            Thousand => 1000.0 * random.fraction(),
+            Whole => random.below(5) as f64,
+            Tenths => random.below(21) as f64 / 10.0,
+            Powers => near_power(random, -4, 4),
+            Huge => near_power(random, 1020, 1023),
+            Large => near_power(random, 509, 514),
+            Small => near_power(random, -545, -530),
+            Least => near_power(random, -1025, -1019),
+            Steps => f64::from_bits(random.below(17)),
+            Bits => any_finite(random),
+        };
+        if random.coin() {
+            magnitude
+        } else {
+            -magnitude
+        }
+    }
+}
+
+/// A power of two or an eighth part more of it, and now and then a float next to that.
+fn near_power(random: &mut Random, low: i64, high: i64) -> f64 {
+    let eighths = if random.coin() { 8 } else { random.between(8, 15) };
+    let value = eighths as f64 * power(random.between(low, high) - 3);
+    if random.once_in(3) {
+        neighbour(random, value)
+    } else {
+        value
+    }
+}
+
+/// 2^exponent, from -1074 on.
+pub fn power(exponent: i64) -> f64 {
+    if exponent < -1022 {
+        f64::from_bits(1 << (exponent + 1074))
+    } else {
+        f64::from_bits(((exponent + 1023) as u64) << 52)
+    }
+}
+
+/// The float above or below; a finite one stays finite.
+pub fn neighbour(random: &mut Random, value: f64) -> f64 {
+    let next = if random.coin() { value.next_up() } else { value.next_down() };
+    if next.is_finite() {
+        next
+    } else {
+        value
+    }
+}
+
+pub fn any_finite(random: &mut Random) -> f64 {
+    loop {
+        let value = f64::from_bits(random.word());
+        if value.is_finite() {
+            return value;
+        }
+    }
+}
+
+pub fn not_finite(random: &mut Random) -> f64 {
+    let sign = random.word() & (1 << 63);
+    let payload = if random.coin() { 0 } else { random.word() >> 12 };
+    f64::from_bits(sign | 0x7ff0_0000_0000_0000 | payload)
+}
+
+pub fn zero(random: &mut Random) -> f64 {
+    random.pick(&[0.0, -0.0])
+}

@@ -1,0 +1,110 @@
+//! `oracle grid`: every request over short lists of words, operation by operation.
+
+use crate::answers::REQUEST;
+use std::io::{self, BufWriter, Write};
+
+/// Operations and, for each word of their arguments, the list that it runs through: F, A, D 0 to 7; b 0 to 2; L a few
+/// lengths; x floats of all sorts, not finite ones among them; t small floats of both signs; g 0 to 3; h 0 to 2; e the
+/// ends 0 and 2; c -1 to 1; m the middle of a face.
+const GRID: [(u64, &str); 48] = [
+    (1, "xxxx"),
+    (2, "xxxx"),
+    (3, "xxx"),
+    (4, "xx"),
+    (5, "xxxx"),
+    (6, "xxxx"),
+    (7, "xx"),
+    (10, "xx"),
+    (11, "xxx"),
+    (12, "xxxx"),
+    (13, "xxxx"),
+    (14, "xxxx"),
+    (15, "xxxx"),
+    (17, "xx"),
+    (19, ""),
+    (20, "xxxx"),
+    (21, "tttt"),
+    (22, "ttttbb"),
+    (23, "tttt"),
+    (24, "xxxx"),
+    (25, "gggggg"),
+    (26, "hhhhhhhh"),
+    (27, "hhhhhhhh"),
+    (28, "hhhhhhhh"),
+    (29, "hhhhhhhh"),
+    (30, "ttttt"),
+    (31, "xxbx"),
+    (32, "hheehheebhh"),
+    (33, "hhhhhhhheeee"),
+    (34, "gggggggg"),
+    (35, "gggggggg"),
+    (40, "xxx"),
+    (41, "xxx"),
+    (42, "Fxxx"),
+    (43, "Fxx"),
+    (44, "Fxxx"),
+    (45, "FAD"),
+    (46, "F"),
+    (47, "F"),
+    (48, "Fx"),
+    (49, "Fx"),
+    (50, "xxx"),
+    (51, "xxx"),
+    (52, "xxx"),
+    (53, "xxx"),
+    (54, "xxxb"),
+    (55, "FccbtttF"),
+    (60, "FmmFmmtttL"),
+];
+
+/// Operations up to this one are also asked with all arguments zero, listed or not.
+const LAST: u64 = 300;
+
+pub fn run() -> io::Result<()> {
+    let mut output = BufWriter::with_capacity(1 << 16, io::stdout().lock());
+    for operation in 0..=LAST {
+        write_request(&mut output, operation, &[])?;
+    }
+    for (operation, arguments) in GRID {
+        let lists: Vec<Vec<u64>> = arguments.chars().map(list).collect();
+        write_all(&mut output, operation, &lists, &mut Vec::new())?;
+    }
+    output.flush()
+}
+
+/// Writes a request for each choice from the lists that go on from the words chosen already.
+fn write_all(output: &mut impl Write, operation: u64, lists: &[Vec<u64>], chosen: &mut Vec<u64>) -> io::Result<()> {
+    let Some((list, rest)) = lists.split_first() else {
+        return write_request(output, operation, chosen);
+    };
+    for word in list {
+        chosen.push(*word);
+        write_all(output, operation, rest, chosen)?;
+        chosen.pop();
+    }
+    Ok(())
+}
+
+fn write_request(output: &mut impl Write, operation: u64, arguments: &[u64]) -> io::Result<()> {
+    let mut request = [0; REQUEST];
+    request[0] = operation;
+    request[1..=arguments.len()].copy_from_slice(arguments);
+    request.iter().try_for_each(|word| output.write_all(&word.to_le_bytes()))
+}
+
+fn list(letter: char) -> Vec<u64> {
+    let floats = |values: &[f64]| values.iter().map(|value| value.to_bits()).collect();
+    match letter {
+        'F' | 'A' | 'D' => (0..8).collect(),
+        'b' => (0..3).collect(),
+        'L' => vec![0, 40, 119, 120, 240],
+        'x' => floats(&[0.0, -0.0, 1.0, -1.0, 2.5, f64::MAX, f64::from_bits(1), f64::INFINITY, f64::NAN]),
+        't' => floats(&[0.0, -0.0, 1.0, -1.0, 2.0]),
+        'g' => floats(&[0.0, 1.0, 2.0, 3.0]),
+        'h' => floats(&[0.0, 1.0, 2.0]),
+        'e' => floats(&[0.0, 2.0]),
+        'c' => floats(&[-1.0, 0.0, 1.0]),
+        'm' => floats(&[0.0]),
+        _ => unreachable!("no list is called {letter}"),
+    }
+}

@@ -1,0 +1,74 @@
+//! Runs the unchanged text of the crate s2 0.2.0, to be compared with the port.
+
+mod agree;
+mod answers;
+mod clip;
+mod crate_s2;
+mod cube;
+mod cut;
+mod finite;
+mod floats;
+mod grid;
+#[cfg(test)]
+mod instances;
+mod line;
+mod number;
+mod operations;
+mod plane;
+mod promises;
+mod random;
+mod records;
+mod requests;
+mod same;
+mod shapes;
+mod stream;
+mod walk;
+mod whole;
+mod words;
+
+// The crate's files look for each other here, and for `libm` among the crates beside them.
+use crate_s2::missing::remquo;
+use crate_s2::{consts, point, r1, r2, r3, s1, s2};
+extern crate self as libm;
+
+use std::process::ExitCode;
+use std::{env, io};
+
+const USAGE: &str = "\
+oracle cut < RECORDS            a line for each 64-byte record, as document 01's program writes it
+oracle records KIND N SEED      N seeded records; KIND is bits or edges
+oracle answers < REQUESTS       a line for each 192-byte request, as the answering program writes it
+oracle requests N SEED          N seeded requests, every operation among them
+oracle grid                     every request over short lists of words
+oracle same A B                 compares two files of lines; 1 when they differ";
+
+fn main() -> ExitCode {
+    let arguments: Vec<String> = env::args().skip(1).collect();
+    let arguments: Vec<&str> = arguments.iter().map(String::as_str).collect();
+    match run(&arguments) {
+        Ok(true) => ExitCode::SUCCESS,
+        Ok(false) => ExitCode::from(1),
+        Err(error) => {
+            eprintln!("oracle: {error}");
+            ExitCode::from(2)
+        }
+    }
+}
+
+/// Says no where a comparison found a difference.
+fn run(arguments: &[&str]) -> io::Result<bool> {
+    match arguments {
+        ["cut"] => cut::run()?,
+        ["answers"] => answers::run()?,
+        ["requests", count, seed] => requests::run(whole(count)?, whole(seed)?)?,
+        ["grid"] => grid::run()?,
+        ["records", kind, count, seed] => records::run(kind, whole(count)?, whole(seed)?)?,
+        ["same", one, other] => return same::run(one, other),
+        _ => return Err(io::Error::other(format!("usage:\n{USAGE}"))),
+    }
+    Ok(true)
+}
+
+fn whole(argument: &str) -> io::Result<u64> {
+    argument.parse().map_err(|_| io::Error::other(format!("{argument:?} is not a whole number")))
+}

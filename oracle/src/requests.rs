@@ -1,0 +1,179 @@
+//! `oracle requests`: seeded requests for the answering program, every operation among them.
+//!
+//! The floats of a request come from one family (see `floats.rs`; in one request of eight each has its own). Intervals
+//! and rectangles are put in order, but for one axis in eight. Most requests of operations 30 to 35 are shaped after an
+//! edge and a window of `oracle records edges`, normals after what is close to a tie, half of the exits of operation 55
+//! are corners (see `shapes.rs`). In the others up to two floats are bound: equal to another, next to it, opposite, the
+//! sum of two, or a zero of either sign. Last, in one request of 16 a float is not finite, in one of 64 two are. Faces,
+//! axes and directions are too great in one of 16, a buffer has any length, and in one request of 64 the operation is
+//! any word. The words after the arguments are random: they have to be ignored.
+
+use crate::answers::REQUEST;
+use crate::floats::{neighbour, not_finite, zero, Family};
+use crate::operations::{kinds, HARD, OPERATIONS};
+use crate::random::Random;
+use crate::shapes;
+use std::io::{self, BufWriter, Write};
+
+#[derive(Clone, Copy)]
+pub enum Word {
+    Float(f64),
+    Plain(u64),
+}
+
+/// A line of progress after so many requests.
+const PROGRESS: u64 = 1_000_000;
+
+pub fn run(count: u64, seed: u64) -> io::Result<()> {
+    let mut random = Random::new(seed);
+    let mut output = BufWriter::with_capacity(1 << 16, io::stdout().lock());
+    for done in 1..=count {
+        for word in request(&mut random) {
+            output.write_all(&word.to_le_bytes())?;
+        }
+        if done % PROGRESS == 0 && count > PROGRESS {
+            eprintln!("requests: {done} of {count}");
+        }
+    }
+    output.flush()
+}
+
+fn request(random: &mut Random) -> [u64; REQUEST] {
+    let operation = operation(random);
+    let mut arguments = match operation {
+        30..=35 if !random.once_in(4) => shapes::around_edge(random, operation),
+        55 if random.coin() => shapes::at_corner(random),
+        _ => plain_arguments(random, operation),
+    };
+    spoil(random, &mut floats_of(&mut arguments));
+    let mut request = std::array::from_fn(|_| random.word());
+    request[0] = operation;
+    for (word, argument) in request[1..].iter_mut().zip(arguments) {
+        *word = match argument {
+            Word::Float(value) => value.to_bits(),
+            Word::Plain(value) => value,
+        };
+    }
+    request
+}
+
+fn floats_of(words: &mut [Word]) -> Vec<&mut f64> {
+    let float = |word| match word {
+        &mut Word::Float(ref mut value) => Some(value),
+        Word::Plain(_) => None,
+    };
+    words.iter_mut().filter_map(float).collect()
+}
+
+fn operation(random: &mut Random) -> u64 {
+    if random.once_in(64) {
+        let any = random.word();
+        return random.pick(&[any, any % 80, any % 512]);
+    }
+    if random.once_in(4) {
+        random.pick(&HARD)
+    } else {
+        random.pick(&OPERATIONS).0
+    }
+}
+
+fn plain_arguments(random: &mut Random, operation: u64) -> Vec<Word> {
+    let shared = Family::any(random);
+    let mixed = random.once_in(8);
+    let mut arguments = Vec::new();
+    for kind in kinds(operation).chars() {
+        let family = if mixed { Family::any(random) } else { shared };
+        match kind {
+            'F' => arguments.push(Word::Plain(limited(random, 5))),
+            'A' => arguments.push(Word::Plain(limited(random, 2))),
+            'D' => arguments.push(Word::Plain(limited(random, 1))),
+            'b' => arguments.push(Word::Plain(zero_or_not(random))),
+            'L' => arguments.push(Word::Plain(length(random))),
+            _ => arguments.extend(floats(random, kind, family).into_iter().map(Word::Float)),
+        }
+    }
+    bind(random, &mut floats_of(&mut arguments));
+    arguments
+}
+
+fn floats(random: &mut Random, kind: char, family: Family) -> Vec<f64> {
+    let count = match kind {
+        'f' => 1,
+        'p' | 'i' => 2,
+        'n' => return shapes::normal(random, family).to_vec(),
+        'v' => 3,
+        'r' => 4,
+        _ => unreachable!("no kind of word is called {kind}"),
+    };
+    let mut floats: Vec<f64> = (0..count).map(|_| family.draw(random)).collect();
+    // The sides of an interval are neighbours, those of a rectangle's axis two apart.
+    let apart = match kind {
+        'i' => 1,
+        'r' => 2,
+        _ => return floats,
+    };
+    for low in 0..apart {
+        let in_order = floats[low] <= floats[low + apart];
+        if in_order == random.once_in(8) {
+            floats.swap(low, low + apart);
+        }
+    }
+    floats
+}
+
+/// 0 to `limit`, but for one in 16; then above it, also where only the low byte is below it.
+fn limited(random: &mut Random, limit: u64) -> u64 {
+    if random.once_in(16) {
+        let any = random.word();
+        random.pick(&[limit + 1, limit + 2, 255, 256, 256 + limit, any])
+    } else {
+        random.below(limit + 1)
+    }
+}
+
+pub fn zero_or_not(random: &mut Random) -> u64 {
+    let any = random.word();
+    random.pick(&[0, 0, 0, 1, 1, 1, 2, 256, 1 << 32, any])
+}
+
+/// Room for all records, about a whole number of records, or anything.
+fn length(random: &mut Random) -> u64 {
+    let any = random.word();
+    match random.below(8) {
+        0..=3 => random.between(240, 400) as u64,
+        4..=6 => (40 * random.below(8) + random.below(3)).saturating_sub(1),
+        _ => random.pick(&[any, any % 512, 0, 400, 401]),
+    }
+}
+
+fn bind(random: &mut Random, floats: &mut [&mut f64]) {
+    if floats.is_empty() {
+        return;
+    }
+    for _ in 0..random.below(3) {
+        let (one, two) = (*floats[random.index(floats.len())], *floats[random.index(floats.len())]);
+        let bound = match random.below(5) {
+            0 => one,
+            1 => neighbour(random, one),
+            2 => -one,
+            3 => one + two,
+            _ => zero(random),
+        };
+        if bound.is_finite() {
+            *floats[random.index(floats.len())] = bound;
+        }
+    }
+}
+
+fn spoil(random: &mut Random, floats: &mut [&mut f64]) {
+    let count = if random.once_in(16) {
+        1
+    } else if random.once_in(64) {
+        2
+    } else {
+        0
+    };
+    for _ in 0..count.min(floats.len()) {
+        *floats[random.index(floats.len())] = not_finite(random);
+    }
+}

@@ -1,0 +1,42 @@
+//! Document 01's module 7, the walk into a lent buffer: its refusals in order, the crate's loop, its promises checked.
+
+use crate::cube::{admit_face, admit_nonzero};
+use crate::finite::admit_finite;
+use crate::number::{Answer, BUFFER_TOO_SHORT};
+use crate::promises;
+use crate::r2::point::Point;
+use crate::r3::vector::Vector;
+use crate::s2::edge_clipping::{private, FaceSegment};
+
+/// The target has to be among so many faces.
+const FACES: usize = 8;
+
+pub const RECORD: usize = 40;
+
+/// Gives back the count of records. With a number instead, the buffer is as it was.
+pub fn walk(face: u64, a: Point, target: u64, b: Point, normal: Vector, buffer: &mut [u8]) -> Answer<usize> {
+    let (face, target) = (admit_face(face)?, admit_face(target)?);
+    admit_finite(&[&a, &b, &normal])?;
+    admit_nonzero(normal)?;
+    let answer = private::walk(face, a, target, b, normal, FACES);
+    promises::check(face, a, target, b, normal, &answer);
+    let segments = answer?;
+    if buffer.len() / RECORD < segments.len() {
+        return Err(BUFFER_TOO_SHORT);
+    }
+    for (segment, place) in segments.iter().zip(buffer.as_chunks_mut().0) {
+        *place = record(segment);
+    }
+    Ok(segments.len())
+}
+
+/// Face, seven zero bytes, then a.u, a.v, b.u, b.v.
+fn record(segment: &FaceSegment) -> [u8; RECORD] {
+    let mut bytes = [0; RECORD];
+    bytes[0] = segment.face;
+    let floats = [segment.a.x, segment.a.y, segment.b.x, segment.b.y];
+    for (place, float) in bytes[8..].as_chunks_mut().0.iter_mut().zip(floats) {
+        *place = float.to_bits().to_le_bytes();
+    }
+    bytes
+}
