@@ -6,6 +6,8 @@ mod clip;
 mod crate_s2;
 mod cube;
 mod cut;
+#[cfg(test)]
+mod differences;
 mod finite;
 mod floats;
 mod grid;
