@@ -1,5 +1,6 @@
 // The numbers given back, and the answers of one value beside a number.
 ghost use mathlib.Core.Path.{_≡_};
+ghost use Rattle.float.specs.Choice.{_and_};
 ghost use Rattle.answer.specs.Answer.{realAnswer, yesNoAnswer, needFinite};
 
 // Kept, or done.
@@ -62,4 +63,11 @@ pub fn need_finite(all: bool) -> u8
     ensures { λ r. ⌜ r ≡ needFinite all ⌝ }
 {
     if all { DONE } else { NOT_FINITE }
+}
+
+// Whether both hold.
+pub fn both(p: bool, q: bool) -> bool
+    ensures { λ r. ⌜ r ≡ (p and q) ⌝ }
+{
+    if p { q } else { false }
 }

@@ -6,6 +6,7 @@ ghost use Rattle.clip.specs.Refuse.{coordinate, side, coordinates, point
 use answer::BAD_WINDOW;
 use answer::DONE;
 use answer::NOT_FINITE;
+use answer::both;
 use plane::Interval;
 use plane::Point;
 use plane::Rect;
@@ -83,15 +84,6 @@ fn is_side(x: f64) -> bool
     ensures { λ r. ⌜ r ≡ side x ⌝ }
 {
     float::is_finite(x)
-}
-
-fn both(p: bool, q: bool) -> bool
-    ensures { λ r. ⌜ r ≡ (p and q) ⌝ }
-{
-    if !p {
-        return false;
-    }
-    q
 }
 
 fn coordinates(x: f64, y: f64) -> bool

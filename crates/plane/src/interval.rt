@@ -7,6 +7,7 @@ ghost use Rattle.plane.specs.Interval.{isEmpty, holds, contains, interse
 ghost use Rattle.plane.specs.Answers.{intervalAnswer};
 use answer::DONE;
 use answer::YesNo;
+use answer::both;
 use answer::need_finite;
 
 pub struct Interval {
@@ -31,35 +32,47 @@ pub fn is_empty(i: Interval) -> YesNo
 pub fn contains(i: Interval, x: f64) -> YesNo
     ensures { λ r. ⌜ r ≡ yesNoAnswer (needFinite (finiteInterval i and finite x)) (holds i x) ⌝ }
 {
-    YesNo::answer(need_finite(finite_with(i, x)), i.contains(x))
+    YesNo::answer(
+        need_finite(both(i.is_finite(), float::is_finite(x))),
+        i.contains(x),
+    )
 }
 
 // Whether j lies in i; an empty one lies in every interval.
 pub fn contains_interval(i: Interval, j: Interval) -> YesNo
     ensures { λ r. ⌜ r ≡ yesNoAnswer (needFinite (finiteInterval i and finiteInterval j)) (contains i j) ⌝ }
 {
-    YesNo::answer(need_finite(both_finite(i, j)), i.contains_interval(j))
+    YesNo::answer(
+        need_finite(both(i.is_finite(), j.is_finite())),
+        i.contains_interval(j),
+    )
 }
 
 // Whether i and j share a point.
 pub fn intersects(i: Interval, j: Interval) -> YesNo
     ensures { λ r. ⌜ r ≡ yesNoAnswer (needFinite (finiteInterval i and finiteInterval j)) (intersects i j) ⌝ }
 {
-    YesNo::answer(need_finite(both_finite(i, j)), i.intersects(j))
+    YesNo::answer(
+        need_finite(both(i.is_finite(), j.is_finite())),
+        i.intersects(j),
+    )
 }
 
 // The least interval with all of i and j; i's end where two compare equal.
 pub fn union(i: Interval, j: Interval) -> IntervalAnswer
     ensures { λ r. ⌜ r ≡ intervalAnswer (needFinite (finiteInterval i and finiteInterval j)) (unionOf i j) ⌝ }
 {
-    IntervalAnswer::answer(need_finite(both_finite(i, j)), i.union(j))
+    IntervalAnswer::answer(need_finite(both(i.is_finite(), j.is_finite())), i.union(j))
 }
 
 // What i and j share; i's end where two compare equal.
 pub fn intersection(i: Interval, j: Interval) -> IntervalAnswer
     ensures { λ r. ⌜ r ≡ intervalAnswer (needFinite (finiteInterval i and finiteInterval j)) (intersectionOf i j) ⌝ }
 {
-    IntervalAnswer::answer(need_finite(both_finite(i, j)), i.intersection(j))
+    IntervalAnswer::answer(
+        need_finite(both(i.is_finite(), j.is_finite())),
+        i.intersection(j),
+    )
 }
 
 // The interval of two numbers; a..a where they compare equal.
@@ -151,10 +164,7 @@ impl Interval {
     pub fn is_finite(self) -> bool
         ensures { λ r. ⌜ r ≡ finiteInterval self ⌝ }
     {
-        if !float::is_finite(self.lo) {
-            return false;
-        }
-        float::is_finite(self.hi)
+        both(float::is_finite(self.lo), float::is_finite(self.hi))
     }
 }
 
@@ -184,22 +194,4 @@ fn max(x: f64, y: f64) -> f64
     ensures { λ r. ⌜ r ≡ greater x y ⌝ }
 {
     if x < y { y } else { x }
-}
-
-fn both_finite(i: Interval, j: Interval) -> bool
-    ensures { λ r. ⌜ r ≡ (finiteInterval i and finiteInterval j) ⌝ }
-{
-    if !i.is_finite() {
-        return false;
-    }
-    j.is_finite()
-}
-
-fn finite_with(i: Interval, x: f64) -> bool
-    ensures { λ r. ⌜ r ≡ (finiteInterval i and finite x) ⌝ }
-{
-    if !i.is_finite() {
-        return false;
-    }
-    float::is_finite(x)
 }

@@ -7,6 +7,7 @@ ghost use Rattle.plane.specs.Point.{at, sumOf, differenceOf, scaledBy, o
 ghost use Rattle.plane.specs.Answers.{pointAnswer};
 use answer::DONE;
 use answer::Real;
+use answer::both;
 use answer::need_finite;
 
 pub struct Point {
@@ -38,31 +39,37 @@ pub fn ortho(p: Point) -> PointAnswer
 pub fn dot(p: Point, q: Point) -> Real
     ensures { λ r. ⌜ r ≡ realAnswer (needFinite (finitePoint p and finitePoint q)) (dotOf p q) ⌝ }
 {
-    Real::answer(need_finite(both_finite(p, q)), p.dot(q))
+    Real::answer(need_finite(both(p.is_finite(), q.is_finite())), p.dot(q))
 }
 
 pub fn cross(p: Point, q: Point) -> Real
     ensures { λ r. ⌜ r ≡ realAnswer (needFinite (finitePoint p and finitePoint q)) (crossOf p q) ⌝ }
 {
-    Real::answer(need_finite(both_finite(p, q)), p.cross(q))
+    Real::answer(need_finite(both(p.is_finite(), q.is_finite())), p.cross(q))
 }
 
 pub fn sum(p: Point, q: Point) -> PointAnswer
     ensures { λ r. ⌜ r ≡ pointAnswer (needFinite (finitePoint p and finitePoint q)) (sumOf p q) ⌝ }
 {
-    PointAnswer::answer(need_finite(both_finite(p, q)), p.sum(q))
+    PointAnswer::answer(need_finite(both(p.is_finite(), q.is_finite())), p.sum(q))
 }
 
 pub fn difference(p: Point, q: Point) -> PointAnswer
     ensures { λ r. ⌜ r ≡ pointAnswer (needFinite (finitePoint p and finitePoint q)) (differenceOf p q) ⌝ }
 {
-    PointAnswer::answer(need_finite(both_finite(p, q)), p.difference(q))
+    PointAnswer::answer(
+        need_finite(both(p.is_finite(), q.is_finite())),
+        p.difference(q),
+    )
 }
 
 pub fn scaling(p: Point, factor: f64) -> PointAnswer
     ensures { λ r. ⌜ r ≡ pointAnswer (needFinite (finitePoint p and finite factor)) (scaledBy p factor) ⌝ }
 {
-    PointAnswer::answer(need_finite(finite_with(p, factor)), p.scaling(factor))
+    PointAnswer::answer(
+        need_finite(both(p.is_finite(), float::is_finite(factor))),
+        p.scaling(factor),
+    )
 }
 
 // ---- what computes
@@ -119,10 +126,7 @@ impl Point {
     pub fn is_finite(self) -> bool
         ensures { λ r. ⌜ r ≡ finitePoint self ⌝ }
     {
-        if !float::is_finite(self.x) {
-            return false;
-        }
-        float::is_finite(self.y)
+        both(float::is_finite(self.x), float::is_finite(self.y))
     }
 }
 
@@ -138,22 +142,4 @@ impl PointAnswer {
             point: Point { x: 0.0, y: 0.0 },
         }
     }
-}
-
-pub fn both_finite(p: Point, q: Point) -> bool
-    ensures { λ r. ⌜ r ≡ (finitePoint p and finitePoint q) ⌝ }
-{
-    if !p.is_finite() {
-        return false;
-    }
-    q.is_finite()
-}
-
-fn finite_with(p: Point, x: f64) -> bool
-    ensures { λ r. ⌜ r ≡ (finitePoint p and finite x) ⌝ }
-{
-    if !p.is_finite() {
-        return false;
-    }
-    float::is_finite(x)
 }

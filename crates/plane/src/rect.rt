@@ -12,6 +12,7 @@ use crate::point::Point;
 use crate::point::PointAnswer;
 use answer::DONE;
 use answer::YesNo;
+use answer::both;
 use answer::need_finite;
 
 pub struct Rect {
@@ -36,7 +37,7 @@ pub fn from_points(a: Point, b: Point) -> RectAnswer
     ensures { λ r. ⌜ r ≡ rectAnswer (needFinite (finitePoint a and finitePoint b)) (boxOf a b) ⌝ }
 {
     RectAnswer::answer(
-        need_finite(crate::point::both_finite(a, b)),
+        need_finite(both(a.is_finite(), b.is_finite())),
         Rect::from_points(a, b),
     )
 }
@@ -77,32 +78,44 @@ pub fn is_empty(r: Rect) -> YesNo
 pub fn contains_point(r: Rect, p: Point) -> YesNo
     ensures { λ a. ⌜ a ≡ yesNoAnswer (needFinite (finiteRect r and finitePoint p)) (containsPoint r p) ⌝ }
 {
-    YesNo::answer(need_finite(finite_with(r, p)), r.contains_point(p))
+    YesNo::answer(
+        need_finite(both(r.is_finite(), p.is_finite())),
+        r.contains_point(p),
+    )
 }
 
 pub fn contains(r: Rect, q: Rect) -> YesNo
     ensures { λ a. ⌜ a ≡ yesNoAnswer (needFinite (finiteRect r and finiteRect q)) (containsRect r q) ⌝ }
 {
-    YesNo::answer(need_finite(both_finite(r, q)), r.contains(q))
+    YesNo::answer(
+        need_finite(both(r.is_finite(), q.is_finite())),
+        r.contains(q),
+    )
 }
 
 pub fn intersects(r: Rect, q: Rect) -> YesNo
     ensures { λ a. ⌜ a ≡ yesNoAnswer (needFinite (finiteRect r and finiteRect q)) (intersectsRect r q) ⌝ }
 {
-    YesNo::answer(need_finite(both_finite(r, q)), r.intersects(q))
+    YesNo::answer(
+        need_finite(both(r.is_finite(), q.is_finite())),
+        r.intersects(q),
+    )
 }
 
 pub fn union(r: Rect, q: Rect) -> RectAnswer
     ensures { λ a. ⌜ a ≡ rectAnswer (needFinite (finiteRect r and finiteRect q)) (unionRect r q) ⌝ }
 {
-    RectAnswer::answer(need_finite(both_finite(r, q)), r.union(q))
+    RectAnswer::answer(need_finite(both(r.is_finite(), q.is_finite())), r.union(q))
 }
 
 // What both share; `Rect::EMPTY` where either axis comes out empty.
 pub fn intersection(r: Rect, q: Rect) -> RectAnswer
     ensures { λ a. ⌜ a ≡ rectAnswer (needFinite (finiteRect r and finiteRect q)) (intersectionRect r q) ⌝ }
 {
-    RectAnswer::answer(need_finite(both_finite(r, q)), r.intersection(q))
+    RectAnswer::answer(
+        need_finite(both(r.is_finite(), q.is_finite())),
+        r.intersection(q),
+    )
 }
 
 // ---- what computes
@@ -194,10 +207,7 @@ impl Rect {
     pub fn is_finite(self) -> bool
         ensures { λ r. ⌜ r ≡ finiteRect self ⌝ }
     {
-        if !self.x.is_finite() {
-            return false;
-        }
-        self.y.is_finite()
+        both(self.x.is_finite(), self.y.is_finite())
     }
 }
 
@@ -243,22 +253,4 @@ fn or_empty(x: Interval, y: Interval) -> Rect
         return Rect::EMPTY;
     }
     Rect { x, y }
-}
-
-fn both_finite(r: Rect, q: Rect) -> bool
-    ensures { λ a. ⌜ a ≡ (finiteRect r and finiteRect q) ⌝ }
-{
-    if !r.is_finite() {
-        return false;
-    }
-    q.is_finite()
-}
-
-fn finite_with(r: Rect, p: Point) -> bool
-    ensures { λ a. ⌜ a ≡ (finiteRect r and finitePoint p) ⌝ }
-{
-    if !r.is_finite() {
-        return false;
-    }
-    p.is_finite()
 }

@@ -3,8 +3,14 @@ use borrow.Author.Needs.{needs}
 use Rattle.plane.proofs.point.scaling.Statement.{statement}
 use Rattle.plane.proofs.point.scaling.Tie as tie
 
-finite-with-requires : tie.Need-finite-with-requires
-finite-with-requires c κs = search needs
+is-finite-requires : tie.Need-is-finite-requires
+is-finite-requires c κs = search needs
+
+is-finite-requires-2 : tie.Need-is-finite-requires-2
+is-finite-requires-2 c κs = search needs
+
+both-requires : tie.Need-both-requires
+both-requires c κs = search needs
 
 need-finite-requires : tie.Need-need-finite-requires
 need-finite-requires c κs = search needs
@@ -21,4 +27,11 @@ returns c = cc
 pub scaling-spec : {M : Type 1} → statement M
 scaling-spec =
     tie.close
-    (tie.spec finite-with-requires need-finite-requires scaling-requires answer-requires returns)
+    (tie.spec
+    is-finite-requires
+    is-finite-requires-2
+    both-requires
+    need-finite-requires
+    scaling-requires
+    answer-requires
+    returns)

@@ -3,8 +3,14 @@ use borrow.Author.Needs.{needs}
 use Rattle.plane.proofs.point.sum.Statement.{statement}
 use Rattle.plane.proofs.point.sum.Tie as tie
 
-both-finite-requires : tie.Need-both-finite-requires
-both-finite-requires c κs = search needs
+is-finite-requires : tie.Need-is-finite-requires
+is-finite-requires c κs = search needs
+
+is-finite-requires-2 : tie.Need-is-finite-requires-2
+is-finite-requires-2 c κs = search needs
+
+both-requires : tie.Need-both-requires
+both-requires c κs = search needs
 
 need-finite-requires : tie.Need-need-finite-requires
 need-finite-requires c κs = search needs
@@ -21,4 +27,11 @@ returns c = cc
 pub sum-spec : {M : Type 1} → statement M
 sum-spec =
     tie.close
-    (tie.spec both-finite-requires need-finite-requires sum-requires answer-requires returns)
+    (tie.spec
+    is-finite-requires
+    is-finite-requires-2
+    both-requires
+    need-finite-requires
+    sum-requires
+    answer-requires
+    returns)

@@ -3,8 +3,14 @@ use borrow.Author.Needs.{needs}
 use Rattle.plane.proofs.rect.intersection.Statement.{statement}
 use Rattle.plane.proofs.rect.intersection.Tie as tie
 
-both-finite-requires : tie.Need-both-finite-requires
-both-finite-requires c κs = search needs
+is-finite-requires : tie.Need-is-finite-requires
+is-finite-requires c κs = search needs
+
+is-finite-requires-2 : tie.Need-is-finite-requires-2
+is-finite-requires-2 c κs = search needs
+
+both-requires : tie.Need-both-requires
+both-requires c κs = search needs
 
 need-finite-requires : tie.Need-need-finite-requires
 need-finite-requires c κs = search needs
@@ -22,7 +28,9 @@ pub intersection-spec : {M : Type 1} → statement M
 intersection-spec =
     tie.close
     (tie.spec
-    both-finite-requires
+    is-finite-requires
+    is-finite-requires-2
+    both-requires
     need-finite-requires
     intersection-requires
     answer-requires

@@ -1,5 +1,4 @@
 -- `Rect::is_finite` is `finiteRect`.
-use Rattle.float.proofs.Choice.{denies}
 use Rattle.plane.specs.Rect.{finiteRect}
 use borrow.Author.Needs.{needs}
 use Rattle.plane.proofs.rect.Rect.is_finite.Statement.{statement}
@@ -8,16 +7,15 @@ use Rattle.plane.proofs.rect.Rect.is_finite.Tie as tie
 is-finite-requires : tie.Need-is-finite-requires
 is-finite-requires c κs = search needs
 
-returns : tie.Need-returns
-unfolding finiteRect
-returns c = search (needs, denies)
-
 is-finite-requires-2 : tie.Need-is-finite-requires-2
 is-finite-requires-2 c κs = search needs
 
-returns-2 : tie.Need-returns-2
+both-requires : tie.Need-both-requires
+both-requires c κs = search needs
+
+returns : tie.Need-returns
 unfolding finiteRect
-returns-2 c = search (needs, denies)
+returns c = cc
 
 pub is-finite-spec : {M : Type 1} → statement M
-is-finite-spec = tie.close (tie.spec is-finite-requires returns is-finite-requires-2 returns-2)
+is-finite-spec = tie.close (tie.spec is-finite-requires is-finite-requires-2 both-requires returns)
