@@ -6,8 +6,9 @@ use native.Mathlib.Numerals.{add-one}
 use mathlib.Core.Path.{_≡_, refl, sym, ap, _∙_}
 use mathlib.Core.List.{List, [], _∷_, _++_}
 use lib.ListN.{length, set, length-set}
-use Rattle.float.proofs.Choice.{when-le, when-gt}
-use Rattle.buffer.specs.Bytes.{stored, placed}
+use lib.Dec.{leb}
+use Rattle.float.proofs.Choice.{cases, when-le, when-gt}
+use Rattle.buffer.specs.Bytes.{bytesOf, stored, placed}
 use Rattle.buffer.specs.Digits.{digitOf, hex, group}
 
 pub length-stored : (xs : List ℕ) (p : ℕ) (bs : List ℕ) → length (stored xs p bs) ≡ length xs
@@ -32,6 +33,17 @@ module _ (xs : List ℕ) (p : ℕ) (bs : List ℕ) where
   unfolding placed
   placed-not h = when-gt _ _ _ _ _ h refl
 
+pub placed-length : (xs ys : List ℕ) (p : ℕ) (bs : List ℕ) → ys ≡ placed xs p bs → length ys ≡ length xs
+unfolding placed
+placed-length xs ys p bs e = rw e (cases (λ (zs : List ℕ). length zs ≡ length xs) (leb (p + length bs) (length xs)) (stored xs p bs) xs (λ h. length-stored xs p bs) (λ h. refl))
+
+-- a run of n bytes that fits, then the rest
+pub placed-then : (xs ys : List ℕ) (p q n : ℕ) (bs rest : List ℕ) → length bs ≡ n → ys ≡ placed xs p bs → p + n ≤ length xs → q ≡ p + n → stored ys q rest ≡ stored xs p (bs ++ rest)
+placed-then xs ys p q n bs rest l e h k =
+    let f : ys ≡ stored xs p bs = e ∙ sym (placed-fits xs p bs (omega arith)) in
+    let g : q ≡ p + length bs = omega arith in
+    rw (f, g) (stored-join xs p bs rest)
+
 -- ---- digits
 pub length-hex : (k n : ℕ) → length (hex k n) ≡ k
 unfolding hex
@@ -52,3 +64,20 @@ pub group-done : (xs out : List ℕ) (p to k n : ℕ) → k ≤ 0 → p + 17 ≤
 unfolding stored hex group
 group-done xs out p to zero n h l e = e ∙ placed-fits xs p (group n) (omega (arith, length-group n))
 group-done xs out p to (suc k) n h l e = absurd (omega arith)
+
+-- ---- bytes of a word
+pub length-bytes : (k n : ℕ) → length (bytesOf k n) ≡ k
+unfolding bytesOf
+length-bytes zero n = refl
+length-bytes (suc k) n = ap suc (length-bytes k (n / 256))
+
+-- the lowest of k + 1 bytes, stored, leaves the k others
+pub bytes-step : (xs : List ℕ) (p k n : ℕ) → 0 < k → stored xs p (bytesOf k n) ≡ stored (set xs p (n % 256)) (p + 1) (bytesOf (k - 1) (n / 256))
+unfolding stored bytesOf
+bytes-step xs p (suc k) n h = let e : suc k - 1 ≡ k = omega arith in rw e
+
+-- no byte is left
+pub bytes-done : (xs out : List ℕ) (p to k m n w : ℕ) → k ≤ 0 → p + m ≤ length xs → stored out to (bytesOf k w) ≡ stored xs p (bytesOf m n) → out ≡ placed xs p (bytesOf m n)
+unfolding stored bytesOf
+bytes-done xs out p to zero m n w h l e = e ∙ placed-fits xs p (bytesOf m n) (omega (arith, length-bytes m n))
+bytes-done xs out p to (suc k) m n w h l e = absurd (omega arith)

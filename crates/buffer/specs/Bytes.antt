@@ -1,5 +1,5 @@
 -- Little-endian words in bytes, and what a run of stores leaves in a buffer.
-use Prim.Native.Nat.{ℕ, _+_, _*_}
+use Prim.Native.Nat.{ℕ, zero, suc, _+_, _*_, _/_, _%_}
 use mathlib.Core.List.{List, [], _∷_}
 use lib.Dec.{leb}
 use lib.ListN.{length, take, drop, set}
@@ -13,6 +13,11 @@ word (b ∷ bs) = word bs * 256 + b
 -- the word at a place; 0 where its 8 bytes are not all there
 unfoldable pub wordAt : List ℕ → ℕ → ℕ
 wordAt s p = when leb (p + 8) (length s) then word (take 8 (drop p s)) else 0
+
+-- the k low bytes of n, the lowest first
+unfoldable pub bytesOf : ℕ → ℕ → List ℕ
+bytesOf zero n = []
+bytesOf (suc k) n = n % 256 ∷ bytesOf k (n / 256)
 
 -- xs with the bytes bs from the place p on
 unfoldable pub stored : List ℕ → ℕ → List ℕ → List ℕ

@@ -2,7 +2,7 @@
 // is not written at all.
 ghost use mathlib.Core.Path.{_≡_};
 ghost use Prim.Native.Nat.{_%_, _<_};
-ghost use Rattle.buffer.specs.Bytes.{wordAt, placed};
+ghost use Rattle.buffer.specs.Bytes.{wordAt, bytesOf, placed};
 ghost use Rattle.buffer.specs.Digits.{digitOf, group};
 
 // The 8 bytes at a place, as a little-endian number; 0 where they are not all there.
@@ -22,6 +22,27 @@ pub fn word_at(s: &[u8], at: usize) -> u64
         w = w * 256 + wide(s[at + i]);
     }
     w
+}
+
+// The 8 bytes of n, little-endian, at a place where all of them fit; else nothing is written.
+pub fn put_word(out: &mut [u8], at: usize, n: u64)
+    ensures { λ _. ⌜ now (out .exit) ≡ placed (now (out .entry)) at (bytesOf 8 n) ⌝ }
+{
+    if out.len() < 8 {
+        return;
+    }
+    if out.len() - 8 < at {
+        return;
+    }
+    let mut w = n;
+    let mut to = at;
+    let mut k: u32 = 8;
+    while 0 < k {
+        k -= 1;
+        out[to] = (w % 256) as u8;
+        to += 1;
+        w = w / 256;
+    }
 }
 
 // A space and the 16 hex digits of n, at a place where all 17 bytes fit; else nothing is written.

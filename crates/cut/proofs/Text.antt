@@ -12,7 +12,7 @@ use Rattle.float.proofs.Choice.{cases, when-eq, when-ne, when-le, when-gt}
 use Rattle.answer.specs.Answer.{beside, torn}
 use Rattle.buffer.specs.Bytes.{stored, placed}
 use Rattle.buffer.specs.Digits.{group}
-use Rattle.buffer.proofs.Stored.{length-stored, stored-join, placed-fits, length-group}
+use Rattle.buffer.proofs.Stored.{stored-join, placed-length, placed-then, length-group}
 use Rattle.plane.specs.declared.point.Point.{Point}
 use Rattle.plane.specs.declared.rect.Rect.{Rect}
 use Rattle.clip.specs.declared.compute.BoxCut.{BoxCut}
@@ -28,15 +28,7 @@ use Rattle.cut.specs.Line.{numberLine, keptLine, lineOf, tornEnd, linesF
 -- ---- a kept line: a byte, four groups and a byte, stored one after the other
 -- a group that fits, then the rest
 group-then : (xs ys : List ℕ) (p q n : ℕ) (rest : List ℕ) → ys ≡ placed xs p (group n) → p + 17 ≤ length xs → q ≡ p + 17 → stored ys q rest ≡ stored xs p (group n ++ rest)
-group-then xs ys p q n rest e h k =
-    let l = length-group n in
-    let f : ys ≡ stored xs p (group n) = e ∙ sym (placed-fits xs p (group n) (omega arith)) in
-    let g : q ≡ p + length (group n) = omega arith in
-    rw (f, g) (stored-join xs p (group n) rest)
-
-placed-length : (xs ys : List ℕ) (p : ℕ) (bs : List ℕ) → ys ≡ placed xs p bs → length ys ≡ length xs
-unfolding placed
-placed-length xs ys p bs e = rw e (cases (λ (zs : List ℕ). length zs ≡ length xs) (leb (p + length bs) (length xs)) (stored xs p bs) xs (λ h. length-stored xs p bs) (λ h. refl))
+group-then xs ys p q n rest = placed-then xs ys p q 17 (group n) rest (length-group n)
 
 pub kept-is : (xs a b c d : List ℕ) (to : ℕ) (s : Segment) (i j k l : ℕ) → to + 70 ≤ length xs
     → a ≡ placed (set xs to 48) (to + 1) (group i) → i ≡ toBits binary64 (s .ax)

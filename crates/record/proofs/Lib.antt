@@ -1,0 +1,2 @@
+-- Laws of the record's bytes.
+pub mod Words

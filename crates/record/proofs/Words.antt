@@ -1,0 +1,65 @@
+-- Five words, one after the other, are a record.
+use Prim.Native.Nat.{ℕ, _+_, _*_, _/_, _%_, _^_, _≤_, _<_}
+use native.Mathlib.Omega.{arith}
+use mathlib.Core.Path.{_≡_, refl, sym, ap, _∙_}
+use mathlib.Core.List.{List, [], _∷_, _++_}
+use lib.ListN.{length, length-append}
+use lib.Ieee.{binary64, toBits}
+use Rattle.buffer.specs.Bytes.{bytesOf, stored, placed}
+use Rattle.buffer.proofs.Stored.{placed-fits, placed-not, placed-length, placed-then, length-bytes}
+use Rattle.record.specs.Record.{floatBytes, headBytes, recordBytes}
+use Rattle.record.specs.declared.Ends.{Ends}
+
+-- the word of the head: its low byte is the first, its high half whose the record is
+pub head-is : (first whose : ℕ) → first < 256 → bytesOf 8 (whose * 0x1_0000_0000 + first) ≡ headBytes first whose
+unfolding bytesOf headBytes
+head-is first whose h =
+    let a : (whose * 0x1_0000_0000 + first) % 256 ≡ first = omega arith in
+    let b : (whose * 0x1_0000_0000 + first) / 256 ≡ whose * 0x100_0000 = omega arith in
+    let c : whose * 0x100_0000 % 256 ≡ 0 = omega arith in
+    let d : whose * 0x100_0000 / 256 ≡ whose * 0x1_0000 = omega arith in
+    let e : whose * 0x1_0000 % 256 ≡ 0 = omega arith in
+    let f : whose * 0x1_0000 / 256 ≡ whose * 0x100 = omega arith in
+    let g : whose * 0x100 % 256 ≡ 0 = omega arith in
+    let i : whose * 0x100 / 256 ≡ whose = omega arith in
+    simp (a, b, c, d, e, f, g, i)
+
+-- a word that fits, then the rest
+word-then : (xs ys : List ℕ) (p q n : ℕ) (rest : List ℕ) → ys ≡ placed xs p (bytesOf 8 n) → p + 8 ≤ length xs → q ≡ p + 8 → stored ys q rest ≡ stored xs p (bytesOf 8 n ++ rest)
+word-then xs ys p q n rest = placed-then xs ys p q 8 (bytesOf 8 n) rest (length-bytes 8 n)
+
+pub length-record : (first whose : ℕ) (s : Ends) → length (recordBytes first whose s) ≡ 40
+unfolding recordBytes headBytes
+length-record first whose s = simp (length-append, length-bytes)
+
+pub record-not : (xs : List ℕ) (p first whose : ℕ) (s : Ends) → length xs < p + 40 → xs ≡ placed xs p (recordBytes first whose s)
+record-not xs p first whose s h = placed-not xs p (recordBytes first whose s) (omega (arith, length-record first whose s))
+
+pub record-is : (xs a b c d e : List ℕ) (p first whose : ℕ) (s : Ends) (h i j k l : ℕ) → p + 40 ≤ length xs
+    → a ≡ placed xs p (bytesOf 8 h) → bytesOf 8 h ≡ headBytes first whose
+    → b ≡ placed a (p + 8) (bytesOf 8 i) → i ≡ toBits binary64 (s .au)
+    → c ≡ placed b (p + 16) (bytesOf 8 j) → j ≡ toBits binary64 (s .av)
+    → d ≡ placed c (p + 24) (bytesOf 8 k) → k ≡ toBits binary64 (s .bu)
+    → e ≡ placed d (p + 32) (bytesOf 8 l) → l ≡ toBits binary64 (s .bv)
+    → e ≡ placed xs p (recordBytes first whose s)
+record-is xs a b c d e p first whose s h i j k l r ea eh eb ei ec ej ed ek ee el =
+    let la = placed-length _ a _ _ ea in
+    let lb = placed-length _ b _ _ eb in
+    let lc = placed-length _ c _ _ ec in
+    let ld = placed-length _ d _ _ ed in
+    let w : e ≡ stored d (p + 32) (bytesOf 8 l) = ee ∙ sym (placed-fits d (p + 32) (bytesOf 8 l) (omega (arith, length-bytes 8 l))) in
+    let t : stored d (p + 32) (bytesOf 8 l) ≡ stored xs p (bytesOf 8 h ++ (bytesOf 8 i ++ (bytesOf 8 j ++ (bytesOf 8 k ++ bytesOf 8 l)))) =
+    word-then c d (p + 24) (p + 32) k _ ed (omega arith) (omega arith)
+    ∙ word-then b c (p + 16) (p + 24) j _ ec (omega arith) (omega arith)
+    ∙ word-then a b (p + 8) (p + 16) i _ eb (omega arith) (omega arith)
+    ∙ word-then xs a p (p + 8) h _ ea (omega arith) (omega arith) in
+    w ∙ t ∙ joined
+  where
+    bytes : List ℕ
+    bytes = bytesOf 8 h ++ (bytesOf 8 i ++ (bytesOf 8 j ++ (bytesOf 8 k ++ bytesOf 8 l)))
+
+    same : bytes ≡ recordBytes first whose s
+    same = unfold recordBytes in rw (eh, ei, ej, ek, el)
+
+    joined : stored xs p bytes ≡ placed xs p (recordBytes first whose s)
+    joined = ap (stored xs p) same ∙ placed-fits xs p (recordBytes first whose s) (omega (arith, length-record first whose s))

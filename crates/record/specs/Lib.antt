@@ -1,0 +1,2 @@
+-- The 40-byte record.
+pub mod Record
