@@ -1,5 +1,5 @@
 -- What each step gives at each case of what it goes on from: the arms of the code's matches.
-use mathlib.Core.Path.{_≡_, refl, sym, ap, _∙_}
+use mathlib.Core.Path.{_≡_, sym, _∙_}
 use Prim.Native.Nat.{ℕ}
 use mathlib.Core.Bool.{Bool, true}
 use lib.Ieee.{Float}
@@ -18,7 +18,6 @@ use Rattle.clip.specs.declared.compute.AxisCut.{AxisCut}
 use Rattle.clip.specs.declared.compute.AxisCut.the-variants.{Left, Gone}
 use Rattle.clip.specs.declared.compute.BoxCut.{BoxCut}
 use Rattle.clip.specs.declared.compute.BoxCut.the-variants.{Inside, Outside}
-use Rattle.clip.specs.declared.Clipped.{Clipped}
 use Rattle.clip.specs.declared.Clipped.the-variants.{Kept, Missed}
 use Rattle.clip.specs.Cut.{otherMoved, sideCut, thenHigh, afterX, afterY, thenY}
 use Rattle.clip.specs.Answers.{ends, edgeAnswer, boundAnswer, axesAnswer, axisAnswer, endAnswer}

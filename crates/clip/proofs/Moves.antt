@@ -4,11 +4,10 @@ use mathlib.Core.Path.{_≡_, refl, sym, ap, _∙_, subst}
 use mathlib.Core.Bool.{Bool, true, false, not}
 use Prim.Native.Nat.{ℕ}
 use native.Mathlib.Omega.{arith}
-use lib.Ieee.{Float, unlike}
+use lib.Ieee.{Float}
 use Rattle.float.proofs.Choice.{else-is, split}
 use Rattle.float.proofs.Order.{Num}
 use Rattle.plane.specs.Interval.{endOf}
-use Rattle.plane.specs.Rect.{_by_}
 use Rattle.plane.specs.Within.{Some, Part, SomeRect, PartRect}
 use Rattle.plane.specs.declared.point.Point.{Point}
 use Rattle.plane.specs.declared.interval.Interval.{Interval}
@@ -19,9 +18,8 @@ use Rattle.clip.specs.declared.compute.Moved.the-variants.{To, Lost}
 use Rattle.clip.specs.declared.compute.Both.{Both}
 use Rattle.clip.specs.declared.compute.AxisCut.{AxisCut}
 use Rattle.clip.specs.declared.compute.AxisCut.the-variants.{Left, Gone}
-use Rattle.clip.specs.declared.compute.BoxCut.{BoxCut}
 use Rattle.clip.specs.declared.compute.BoxCut.the-variants.{Inside, Outside}
-use Rattle.clip.specs.Cut.{inward, withEnd, movedEnd, valueAt, otherMoved, sideCut, thenHigh, axisCut, negativeSlope, afterY, afterX, thenY, boxCut}
+use Rattle.clip.specs.Cut.{inward, withEnd, movedEnd, otherMoved, sideCut, thenHigh, axisCut, negativeSlope, afterY, afterX, thenY, boxCut}
 use Rattle.clip.proofs.Sides.{upTo, inward-up, not-inward, up-not, up-refl, up-num, end-num, end-with, with-part, Reach, part-reach, reaches, reach-part}
 
 -- ---- constructors

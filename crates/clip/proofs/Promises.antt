@@ -1,38 +1,35 @@
 -- What specs/Promises.antt promises, proved.
 use mathlib.Core.Path.{_≡_, refl, sym, ap, _∙_, subst}
-use mathlib.Core.Logic.{_⊎_, inl, inr}
-use mathlib.Core.Bool.{Bool, true, false, not}
+use mathlib.Core.Bool.{Bool, true, false}
 use Prim.Native.Nat.{ℕ}
 use native.Mathlib.Omega.{arith}
 use lib.Dec.{eqb}
 use borrow.Author.Tests.{eqb-true}
-use lib.Ieee.{Float, nan, inf, fin, lt, eq}
+use lib.Ieee.{Float, nan, inf, fin, lt}
 use Rattle.float.specs.Choice.{when_then_else_}
 use Rattle.float.specs.Float.{finite}
 use Rattle.float.proofs.Choice.{else-is, split, and-parts}
 use Rattle.float.proofs.Order.{finite-num}
 use Rattle.answer.specs.Answer.{beside}
 use Rattle.answer.proofs.Beside.{beside-done}
-use Rattle.plane.specs.Point.{at}
-use Rattle.plane.specs.Interval.{between, endOf}
+use Rattle.plane.specs.Interval.{endOf}
 use Rattle.plane.specs.Rect.{boxOf}
-use Rattle.plane.specs.Within.{In, InRect, Some, Part, SomeRect, PartRect, EndsRect, ShareRect}
+use Rattle.plane.specs.Within.{In, Some, SomeRect, PartRect, EndsRect, ShareRect}
 use Rattle.plane.specs.declared.point.Point.{Point}
 use Rattle.plane.specs.declared.interval.Interval.{Interval}
 use Rattle.plane.specs.declared.rect.Rect.{Rect}
 use Rattle.plane.proofs.Parts.{in-some, part-in, end-in, rect-ends}
 use Rattle.plane.proofs.Between.{between-in, between-ends, a-end, b-end}
 use Rattle.plane.proofs.Shared.{box-share}
-use Rattle.clip.specs.declared.compute.Moved.the-variants.{To, Lost}
+use Rattle.clip.specs.declared.compute.Moved.the-variants.{To}
 use Rattle.clip.specs.declared.compute.BoxCut.{BoxCut}
 use Rattle.clip.specs.declared.compute.BoxCut.the-variants.{Inside, Outside}
 use Rattle.clip.specs.declared.Segment.{Segment}
-use Rattle.clip.specs.declared.Clipped.{Clipped}
 use Rattle.clip.specs.declared.Clipped.the-variants.{Kept, Missed, Refused}
-use Rattle.clip.specs.Cut.{inward, movedEnd, boxCut, crossed, edgeMeets}
-use Rattle.clip.specs.Refuse.{coordinate, side, planeRefusal, pointFine, sidesFine, windowFine, edgeRefusal}
+use Rattle.clip.specs.Cut.{inward, movedEnd, boxCut, edgeMeets}
+use Rattle.clip.specs.Refuse.{coordinate, planeRefusal, pointFine, sidesFine, windowFine, edgeRefusal}
 use Rattle.clip.specs.Answers.{ends, edgeAnswer, clipped}
-use Rattle.clip.specs.Promises.{Fine, KeptBox, BothIn, SameAs, Unchanged, Promises}
+use Rattle.clip.specs.Promises.{Fine, KeptBox, BothIn, Unchanged, Promises}
 use Rattle.clip.proofs.Moves.{moved-part, box-inside, box-stays}
 
 -- ---- what is not refused is finite, and the window is good

@@ -4,8 +4,8 @@ use mathlib.Core.Bool.{Bool, not}
 use lib.Ieee.{Float, lt}
 use Rattle.float.specs.Float.{zeroF}
 use Rattle.answer.specs.Answer.{done, missed, beside}
-use Rattle.plane.specs.Interval.{endOf, emptyInterval}
-use Rattle.plane.specs.Rect.{boxOf, emptyRect}
+use Rattle.plane.specs.Interval.{endOf}
+use Rattle.plane.specs.Rect.{boxOf}
 use Rattle.plane.specs.Answers.{zeroInterval, zeroRect, intervalAnswer, rectAnswer}
 use Rattle.plane.specs.declared.point.Point.{Point}
 use Rattle.plane.specs.declared.interval.Interval.{Interval}
@@ -14,7 +14,6 @@ use Rattle.plane.specs.declared.rect.Rect.{Rect}
 use Rattle.plane.specs.declared.rect.RectAnswer.{RectAnswer}
 use Rattle.clip.specs.declared.compute.Moved.{Moved}
 use Rattle.clip.specs.declared.compute.Moved.the-variants.{To, Lost}
-use Rattle.clip.specs.declared.compute.Both.{Both}
 use Rattle.clip.specs.declared.compute.AxisCut.{AxisCut}
 use Rattle.clip.specs.declared.compute.AxisCut.the-variants.{Left, Gone}
 use Rattle.clip.specs.declared.compute.BoxCut.{BoxCut}

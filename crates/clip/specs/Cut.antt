@@ -1,5 +1,5 @@
 -- Cutting to a window: the rules of document 01, in its order. An end of an interval, and a side of a window, is high or low by a flag.
-use mathlib.Core.Bool.{Bool, true, false, not, Bool·beq}
+use mathlib.Core.Bool.{Bool, true, false, not}
 use lib.Ieee.{Float, lt, le, eq, unlike}
 use Rattle.float.specs.Choice.{when_then_else_, _and_}
 use Rattle.float.specs.Float.{_⊕_, _⊖_, _⊗_, _⊘_, zeroF, magnitudeOf}

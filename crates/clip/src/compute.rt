@@ -1,6 +1,6 @@
 // What the entries compute: any float goes in, NaN and infinities too, and nothing is refused.
 ghost use mathlib.Core.Path.{_≡_};
-ghost use Rattle.clip.specs.Cut.{valueAt, inward, withEnd, movedEnd, sideCut, axisCut, negativeSlope, afterX, afterY, otherMoved, boxCut, offLine, crossed, edgeMeets};
+ghost use Rattle.clip.specs.Cut.{valueAt, inward, withEnd, movedEnd, sideCut, axisCut, negativeSlope, afterX, otherMoved, boxCut, offLine, crossed, edgeMeets};
 use plane::Interval;
 use plane::Point;
 use plane::Rect;

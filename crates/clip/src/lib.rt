@@ -7,9 +7,8 @@ pub mod refuse;
 
 ghost use mathlib.Core.Path.{_≡_};
 ghost use Rattle.answer.specs.Answer.{realAnswer, yesNoAnswer};
-ghost use Rattle.plane.specs.Rect.{boxOf};
-ghost use Rattle.clip.specs.Cut.{valueAt, movedEnd, axisCut, boxCut, edgeMeets};
-ghost use Rattle.clip.specs.Refuse.{valueRefusal, endRefusal, axisRefusal, boundRefusal, edgeRefusal};
+ghost use Rattle.clip.specs.Cut.{valueAt, edgeMeets};
+ghost use Rattle.clip.specs.Refuse.{valueRefusal, edgeRefusal};
 ghost use Rattle.clip.specs.Answers.{ends, endAnswer, axesAnswer, axisAnswer, boundAnswer, edgeAnswer, clipped, endOrRefusal, axisOrRefusal, boundOrRefusal};
 use answer::DONE;
 use answer::MISSED;

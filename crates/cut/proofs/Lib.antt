@@ -1,2 +1,3 @@
--- Laws of the lines that the proofs of this crate cite.
+-- Laws of the lines that the proofs of this crate cite, and the promises.
 pub mod Text
+pub mod Promises

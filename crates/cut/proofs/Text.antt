@@ -1,12 +1,12 @@
 -- Lines, how long they are, and how one after the other makes the text.
-use Prim.Native.Nat.{ℕ, zero, suc, _+_, _-_, _*_, _/_, _%_, _≤_, _<_}
+use Prim.Native.Nat.{ℕ, suc, _+_, _-_, _*_, _/_, _%_, _≤_, _<_}
 use native.Mathlib.Omega.{arith}
 use mathlib.Core.Path.{_≡_, refl, sym, ap, _∙_}
 use mathlib.Core.Bool.{Bool}
 use mathlib.Core.List.{List, [], _∷_, _++_}
 use lib.Dec.{leb, eqb}
 use lib.ListN.{length, set, length-set, length-append}
-use lib.Ieee.{Float, binary64, toBits}
+use lib.Ieee.{binary64, toBits}
 use Rattle.float.specs.Choice.{when_then_else_}
 use Rattle.float.proofs.Choice.{cases, when-eq, when-ne, when-le, when-gt}
 use Rattle.answer.specs.Answer.{beside, torn}

@@ -1,13 +1,11 @@
 -- The test of a program for a finite value: x - x is zero.
-use mathlib.Core.Path.{_≡_, refl, sym, ap, _∙_}
-use mathlib.Core.Bool.{Bool, true, false, not, _&&_, Bool·beq, cond}
-use Prim.Native.Nat.{ℕ, _+_, _-_, _*_, _<_}
-use native.Mathlib.Nat.{mul-pos, sub-self, zero-mul}
+use mathlib.Core.Path.{_≡_, refl}
+use mathlib.Core.Bool.{Bool, true, false, not}
+use Prim.Native.Nat.{ℕ, _*_, _<_}
+use native.Mathlib.Nat.{mul-pos, sub-self}
 use native.Mathlib.Omega.{arith}
-use lib.Dec.{ltb}
-use lib.IntN.{ℤ}
 use borrow.Author.Tests.{le-ltb}
-use lib.Ieee.{Float, nan, inf, fin, Format, binary64, up, down, round, sum, add, sub, neg, eq, ofBits}
+use lib.Ieee.{Float, nan, inf, fin, Format, binary64, up, down, round, sum, sub, eq, ofBits}
 use lib.Ieee.Fits.{down-pos}
 use lib.Ieee.Scale.{round-same}
 use Rattle.float.specs.Float.{finite}

@@ -7,7 +7,7 @@ use native.Mathlib.Nat.{le-of-lt, sub-eq-zero-of-le, mul-pos, mul-assoc}
 use lib.Dec.{ltb}
 use borrow.Author.Tests.{eqb-true, lt-ltb, le-ltb}
 use lib.Pow.{pow-pos}
-use lib.IntN.{ℤ, pos, _+ℤ_, _-ℤ_, _*ℤ_, +ℤ-comm}
+use lib.IntN.{pos, _+ℤ_, _-ℤ_, _*ℤ_, +ℤ-comm}
 use lib.Ieee.{Float, Format, low, unlike, level, eq, sum, add, sub, mul, div, round}
 use lib.Ieee.Scale.{overflow, round-same}
 use Rattle.float.specs.Float.{signBit}

@@ -1,16 +1,15 @@
 -- The magnitude by comparisons: what each of its three branches gives.
-use mathlib.Core.Path.{_≡_, refl, sym, ap, _∙_, subst}
-use mathlib.Core.Logic.{_⊎_, inl, inr}
-use Prim.Native.Nat.{ℕ, zero, suc, _+_, _-_, _*_, _%_, _^_, _≤_, _<_}
-use native.Mathlib.Nat.{mul-pos, mul-one, one-mul, zero-lt-suc, lt-of-lt-of-le, le-of-eq, pow-suc}
+use mathlib.Core.Path.{_≡_, refl, sym, ap, _∙_}
+use Prim.Native.Nat.{ℕ, zero, suc, _+_, _*_, _^_, _≤_, _<_}
+use native.Mathlib.Nat.{mul-pos, mul-one, one-mul, zero-lt-suc}
 use native.Mathlib.Omega.{arith}
-use mathlib.Core.Bool.{Bool, true, false, not, _&&_, _||_, Bool·beq, cond, true≢false}
+use mathlib.Core.Bool.{Bool, true, false, _&&_, _||_, Bool·beq, true≢false}
 use lib.IntN.{ℤ, pos, negsuc}
-use lib.Dec.{T, ltb, leb, eqb, eqb→eq, ltb→lt}
-use lib.Pow.{pow-pos, pow-lt}
-use borrow.Author.Tests.{ltb-true, ltb-false, eqb-true, eqb-false, eq-eqb}
-use lib.Ieee.{Float, nan, inf, fin, Format, binary64, prec, low, up, down, emax, neg, lt, eq, fits, ofBits, below, level}
-use lib.Ieee.Fits.{up-pos, down-pos, and-l}
+use lib.Dec.{T, eqb, eqb→eq}
+use lib.Pow.{pow-lt}
+use borrow.Author.Tests.{ltb-true, ltb-false, eqb-true, eq-eqb}
+use lib.Ieee.{Float, nan, inf, fin, Format, binary64, up, down, neg, lt, eq, fits, ofBits}
+use lib.Ieee.Fits.{up-pos}
 use Rattle.float.specs.Float.{magnitudeOf}
 
 pub zero-is : ofBits binary64 0 ≡ fin false 0 (pos 0)

@@ -2,8 +2,8 @@
 -- The order of all values, infinities and the NaN among them, is in proofs/Order.antt.
 use Prim.Native.Nat.{ℕ, _*_, _^_, _≤_, _<_}
 use mathlib.Core.Path.{_≡_}
-use mathlib.Core.Bool.{Bool, true, false}
-use lib.IntN.{ℤ, pos, _+ℤ_, _-ℤ_, _*ℤ_}
+use mathlib.Core.Bool.{Bool, true}
+use lib.IntN.{pos, _+ℤ_, _-ℤ_, _*ℤ_}
 use lib.Signed.{ltZ, leZ}
 use lib.Ieee.{Float, Format, low, round, add, sub, mul, div, lt, le, eq}
 use Rattle.float.specs.Float.{finite, signBit}

@@ -1,11 +1,11 @@
 -- The interval of two numbers: both lie in it, its ends are among them, and it is the least that has both.
-use mathlib.Core.Path.{_≡_, refl}
-use mathlib.Core.Bool.{Bool, true, false, not}
+use mathlib.Core.Path.{_≡_, refl, sym, _∙_}
+use mathlib.Core.Bool.{Bool, true, false, not, _&&_, false≢true}
 use mathlib.Core.Logic.{_⊎_, inl, inr}
 use lib.Ieee.{Float, lt, le, eq}
 use Rattle.float.specs.Choice.{when_then_else_}
-use Rattle.float.proofs.Choice.{cases}
-use Rattle.float.proofs.Order.{Num, le-num, le-refl, lt-le, not-lt, le-eq}
+use Rattle.float.proofs.Choice.{else-is, cases}
+use Rattle.float.proofs.Order.{Num, le-num, le-refl, lt-le, not-lt, le-not-lt, le-eq, eq-both}
 use Rattle.plane.specs.Interval.{from_to_, between, endOf}
 use Rattle.plane.specs.Within.{In, Part}
 use Rattle.plane.specs.declared.interval.Interval.{Interval}
@@ -39,6 +39,15 @@ between-least a b j p q =
 -- neither end alone is a NaN
 pub between-num : (a b : Float) → Num (between a b .hi) → Num (between a b .lo)
 between-num a b = three (λ (i : Interval). Num (i .hi) → Num (i .lo)) a b (λ h n. le-num b a (lt-le b a h) .0) (λ h n. le-num a b (lt-le a b h) .0) (λ h k n. n)
+
+-- where they compare equal the first is both ends
+pub between-equal : (a b : Float) → eq a b ≡ true → between a b ≡ from a to a
+unfolding between
+between-equal a b e = go (le a b) refl (sym (eq-both a b) ∙ e)
+  where
+    go : (p : Bool) → le a b ≡ p → (p && le b a) ≡ true → between a b ≡ from a to a
+    go true f h = sym (else-is _ _ _ _ (le-not-lt a b f) (else-is _ _ _ _ (le-not-lt b a h) refl))
+    go false f h = absurd (false≢true h)
 
 -- ---- the ends that a and b take: a's is a itself; b's is b, or where they compare equal, a
 pub a-end : (a b : Float) → endOf (between a b) (lt b a) ≡ a

@@ -2,3 +2,4 @@
 pub mod Parts
 pub mod Between
 pub mod Shared
+pub mod Promises

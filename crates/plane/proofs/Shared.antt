@@ -1,12 +1,11 @@
 -- `intersects` says yes exactly where a point is shared.
 use mathlib.Core.Path.{_≡_}
 use mathlib.Core.Bool.{Bool, true}
-use lib.Ieee.{Float, le}
 use Rattle.float.proofs.Choice.{split, cases, and-parts, and-both}
 use Rattle.float.proofs.Order.{Num, le-num, le-refl, le-trans, lt-le, not-le}
-use Rattle.plane.specs.Interval.{intersects, between}
+use Rattle.plane.specs.Interval.{intersects}
 use Rattle.plane.specs.Rect.{boxOf, intersectsRect}
-use Rattle.plane.specs.Within.{In, InRect, Share, ShareRect}
+use Rattle.plane.specs.Within.{Share, ShareRect}
 use Rattle.plane.specs.declared.point.Point.{Point}
 use Rattle.plane.specs.declared.interval.Interval.{Interval}
 use Rattle.plane.specs.declared.rect.Rect.{Rect}
@@ -30,14 +29,18 @@ share-intersects i j (x, p, q) =
     cases (λ (b : Bool). b ≡ true) _ _ _ (λ h. and-both _ _ (le-trans _ _ _ (q .low) (p .high)) (in-some j x q))
     (λ h. and-both _ _ (le-trans _ _ _ (p .low) (q .high)) (in-some i x p))
 
--- ---- a rectangle and the box of two points, NaN included
-pub box-share : (r : Rect) (a b : Point) → intersectsRect r (boxOf a b) ≡ true → ShareRect r (boxOf a b)
+-- ---- the same on both axes
+pub intersects-share-rect : (r q : Rect) → (Num (q .x .hi) → Num (q .x .lo)) → (Num (q .y .hi) → Num (q .y .lo)) → intersectsRect r q ≡ true → ShareRect r q
 unfolding intersectsRect
-box-share r a b e =
-    let (p, q) = and-parts _ _ e in
-    let (x, i, j) = intersects-share (r .x) (between (a .x) (b .x)) (between-num (a .x) (b .x)) p in
-    let (y, k, l) = intersects-share (r .y) (between (a .y) (b .y)) (between-num (a .y) (b .y)) q in
+intersects-share-rect r q m n e =
+    let (p, o) = and-parts _ _ e in
+    let (x, i, j) = intersects-share (r .x) (q .x) m p in
+    let (y, k, l) = intersects-share (r .y) (q .y) n o in
     (record { x = x; y = y }, record { x = i; y = k }, record { x = j; y = l })
+
+-- the box of two points, NaN included
+pub box-share : (r : Rect) (a b : Point) → intersectsRect r (boxOf a b) ≡ true → ShareRect r (boxOf a b)
+box-share r a b = intersects-share-rect r (boxOf a b) (between-num (a .x) (b .x)) (between-num (a .y) (b .y))
 
 pub share-intersects-rect : (r q : Rect) → ShareRect r q → intersectsRect r q ≡ true
 unfolding intersectsRect

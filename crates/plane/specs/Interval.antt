@@ -1,5 +1,5 @@
 -- Module 2: the closed interval. Empty when lo > hi.
-use mathlib.Core.Bool.{Bool, true, false}
+use mathlib.Core.Bool.{Bool, true}
 use lib.Ieee.{Float, lt, le}
 use Rattle.float.specs.Choice.{when_then_else_, _and_}
 use Rattle.float.specs.Float.{zeroF, oneF, finite}

@@ -4,3 +4,4 @@ pub mod Interval
 pub mod Rect
 pub mod Answers
 pub mod Within
+pub mod Promises

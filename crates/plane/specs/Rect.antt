@@ -1,5 +1,5 @@
 -- Module 3: the rectangle, a closed interval on each axis.
-use mathlib.Core.Bool.{Bool, true, false, not}
+use mathlib.Core.Bool.{Bool, true, false}
 use mathlib.Core.List.{List, [], _∷_}
 use Rattle.float.specs.Choice.{when_then_else_, _and_}
 use Rattle.plane.specs.Point.{at}

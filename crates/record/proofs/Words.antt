@@ -1,13 +1,13 @@
 -- Five words, one after the other, are a record.
-use Prim.Native.Nat.{ℕ, _+_, _*_, _/_, _%_, _^_, _≤_, _<_}
+use Prim.Native.Nat.{ℕ, _+_, _*_, _/_, _%_, _≤_, _<_}
 use native.Mathlib.Omega.{arith}
-use mathlib.Core.Path.{_≡_, refl, sym, ap, _∙_}
-use mathlib.Core.List.{List, [], _∷_, _++_}
+use mathlib.Core.Path.{_≡_, sym, ap, _∙_}
+use mathlib.Core.List.{List, _++_}
 use lib.ListN.{length, length-append}
 use lib.Ieee.{binary64, toBits}
 use Rattle.buffer.specs.Bytes.{bytesOf, stored, placed}
 use Rattle.buffer.proofs.Stored.{placed-fits, placed-not, placed-length, placed-then, length-bytes}
-use Rattle.record.specs.Record.{floatBytes, headBytes, recordBytes}
+use Rattle.record.specs.Record.{headBytes, recordBytes}
 use Rattle.record.specs.declared.Ends.{Ends}
 
 -- the word of the head: its low byte is the first, its high half whose the record is

@@ -1,6 +1,6 @@
 -- The 40-byte record: a face or a number, three zero bytes, four bytes that say whose it is (zero for now), then a.u, a.v, b.u, b.v as little-endian bits.
 use Prim.Native.Nat.{ℕ}
-use mathlib.Core.List.{List, [], _∷_, _++_}
+use mathlib.Core.List.{List, _∷_, _++_}
 use lib.Ieee.{Float, binary64, toBits}
 use Rattle.buffer.specs.Bytes.{bytesOf}
 use Rattle.record.specs.declared.Ends.{Ends}

@@ -1,12 +1,12 @@
 -- `put_group` is `group`, placed. The loop's invariant: the k digits left, stored at `to`, give what all sixteen would have given.
-use Prim.Native.Nat.{_+_, _-_, _*_, _^_, _≤_, _<_}
+use Prim.Native.Nat.{_+_, _≤_}
 use mathlib.Core.Path.{_≡_, refl, sym, _∙_}
 use native.Mathlib.Omega.{arith}
 use lib.ListN.{length, length-set}
 use borrow.Author.Needs.{needs}
-use Rattle.buffer.specs.Bytes.{stored, placed}
-use Rattle.buffer.specs.Digits.{hex, group}
-use Rattle.buffer.proofs.Stored.{length-stored, placed-fits, placed-not, length-group, hex-step, group-done}
+use Rattle.buffer.specs.Bytes.{stored}
+use Rattle.buffer.specs.Digits.{hex}
+use Rattle.buffer.proofs.Stored.{placed-not, length-group, hex-step, group-done}
 use Rattle.buffer.proofs.put_group.Statement.{statement}
 use Rattle.buffer.proofs.put_group.Tie as tie
 

@@ -1,6 +1,6 @@
 -- `word_at` is `wordAt`. The loop's invariant: w is the word of the bytes from at + i to at + 8, and below 2 ^ (8 * (8 - i)).
 use Prim.Native.Nat.{_+_, _-_, _*_, _^_, _≤_, _<_}
-use mathlib.Core.Path.{_≡_, refl, sym}
+use mathlib.Core.Path.{_≡_}
 use native.Mathlib.Omega.{arith}
 use lib.ListN.{length, take, drop}
 use borrow.Author.Needs.{needs}

@@ -1,9 +1,8 @@
 -- `put_text` stores the text. The loop's invariant: the lines left, stored at `to`, give what the whole text would have given, and end where it ends.
 use Prim.Native.Nat.{_+_, _-_, _*_, _/_, _≤_}
-use mathlib.Core.Path.{_≡_, refl, sym, ap, _∙_}
+use mathlib.Core.Path.{_≡_, refl, ap}
 use native.Mathlib.Omega.{arith}
 use lib.ListN.{length}
-use borrow.Author.Needs.{needs}
 use Rattle.buffer.specs.Bytes.{stored}
 use Rattle.cut.specs.Line.{linesFrom, textOf, room}
 use Rattle.cut.proofs.Text.{length-number, record-digit, line-room, line-stored, line-counted, torn-no, torn-yes, text-start, text-count, text-none, text-end}
