@@ -1,8 +1,11 @@
 //! docs/DIFFERENCES.md, entry by entry: what the crate itself answers, asked with no refusal before it.
 
+use crate::line::Axis;
 use crate::r1::interval::Interval;
 use crate::r2::{point::Point, rect::Rect};
+use crate::r3::vector::Vector;
 use crate::s2::edge_clipping::{clip_edge, private};
+use crate::s2::stuv;
 
 const NAN: f64 = f64::NAN;
 
@@ -117,4 +120,41 @@ fn d12_the_interval_of_two_zeros() {
     assert_eq!(bits(&[pair.lo, pair.hi]), bits(&[0.0, -0.0]));
     let added = Interval::from_point(0.0) + -0.0;
     assert_eq!(bits(&[added.lo, added.hi]), bits(&[0.0, 0.0]));
+}
+
+#[test]
+fn d13_the_zero_vector_has_a_face() {
+    let (face, u, v) = stuv::xyz_to_face_uv(&Vector { x: 0.0, y: 0.0, z: 0.0 });
+    assert!(face == 0 && u.is_nan() && v.is_nan());
+}
+
+#[test]
+fn d14_a_number_that_is_no_face_stops_the_program() {
+    let panics = |ask: fn() -> u8| std::panic::catch_unwind(ask).is_err();
+    assert!(panics(|| stuv::face_uv_to_xyz(6, 0.0, 0.0).x as u8));
+    assert!(panics(|| stuv::uvw_face(6, 0, 0)));
+    assert!(panics(|| stuv::uvw_face(0, 3, 0)));
+    assert!(panics(|| stuv::uvw_face(0, 0, 2)));
+}
+
+#[test]
+fn d15_the_exact_tests_with_an_infinity() {
+    let infinite = Vector { x: f64::INFINITY, y: 1.0, z: f64::INFINITY };
+    assert!(!private::intersects_face(infinite));
+    assert!(!private::sum_equal(f64::INFINITY, 1.0, f64::INFINITY));
+}
+
+#[test]
+fn d16_a_sign_bit_that_shows_only_off_the_face() {
+    let along = |x: f64| private::exit_axis(Vector { x, y: 1.0, z: 2.0 });
+    assert!(matches!(along(-0.0), Axis::U) && matches!(along(0.0), Axis::V));
+}
+
+#[test]
+fn d17_the_exit_of_a_line_that_misses_the_face() {
+    let normal = Vector { x: 1.0, y: 0.0, z: 0.0 };
+    let in_face = Vector { x: normal.y, y: normal.z, z: normal.x };
+    assert!(!private::intersects_face(in_face));
+    let exit = private::exit_point(in_face, private::exit_axis(in_face));
+    assert_eq!([exit.x, exit.y], [f64::NEG_INFINITY, -1.0]);
 }

@@ -25,6 +25,26 @@ notFinite = 2
 abbrev pub badWindow : ℕ
 badWindow = 3
 
+-- a face above 5; an axis above 2 or a direction above 1
+abbrev pub badFace : ℕ
+badFace = 4
+
+-- a vector or normal all zero; a zero divisor
+abbrev pub allZero : ℕ
+allZero = 5
+
+-- the line does not meet a face that is not the target
+abbrev pub offFace : ℕ
+offFace = 6
+
+-- the target is not among the first 8 faces
+abbrev pub unfinished : ℕ
+unfinished = 7
+
+-- the buffer holds fewer whole records than the walk has
+abbrev pub shortBuffer : ℕ
+shortBuffer = 8
+
 -- the program's input ends in 1 to 63 bytes beyond whole records
 abbrev pub torn : ℕ
 torn = 9

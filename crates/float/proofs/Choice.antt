@@ -69,3 +69,9 @@ and-parts p q e = split p q false true e (λ h k. (h, k)) (λ h k. absurd (false
 
 pub and-both : (p q : Bool) → p ≡ true → q ≡ true → (p and q) ≡ true
 and-both p q e f = sym (then-is p true q false e (sym f))
+
+-- two tests that hold together are one
+pub same : (p q : Bool) → (p ≡ true → q ≡ true) → (q ≡ true → p ≡ true) → p ≡ q
+same true q f g = sym (f refl)
+same false true f g = g refl
+same false false f g = refl

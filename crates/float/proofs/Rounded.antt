@@ -62,7 +62,7 @@ net-like f s a b = record { sign = s; once = alike f s a b (2 ^ low f); whole = 
 net-unlike : (f : Format) (s : Bool) (a b : ℕ) → (n : ℕ) × Net f s (not s) a b n
 net-unlike f s a b = elim (le-or-lt b a) [ inl h ↦ (a - b, net-ge f s h) | inr h ↦ (b - a, net-lt f s h) ]
 
-net : (f : Format) (s t : Bool) (a b : ℕ) → (n : ℕ) × Net f s t a b n
+pub net : (f : Format) (s t : Bool) (a b : ℕ) → (n : ℕ) × Net f s t a b n
 net f false false a b = (a + b, net-like f false a b)
 net f false true a b = net-unlike f false a b
 net f true false a b = net-unlike f true a b

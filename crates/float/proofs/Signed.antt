@@ -50,7 +50,7 @@ leZ-either (negsuc a) (negsuc b) = rw (eqb-swap a b) (le-either b a)
 pub leq-Z : (s t : Bool) (a b : ℕ) → (below s a t b || level s a t b) ≡ leZ (signed s a) (signed t b)
 leq-Z s t a b = rw (below-Z s t a b, level-Z s t a b) (leZ-either (signed s a) (signed t b))
 
-eqZ-refl : (x : ℤ) → eqZ x x ≡ true
+pub eqZ-refl : (x : ℤ) → eqZ x x ≡ true
 eqZ-refl (pos a) = eq-eqb a a refl
 eqZ-refl (negsuc a) = eq-eqb a a refl
 

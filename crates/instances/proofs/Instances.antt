@@ -2,15 +2,19 @@
 use mathlib.Core.Path.{refl}
 use lib.Ieee.{ofBits, add, sub, mul, div, neg, lt, le, eq}
 use Rattle.float.specs.Choice.{when_then_else_}
-use Rattle.float.specs.Float.{finite, magnitudeOf}
+use Rattle.float.specs.Float.{finite, magnitudeOf, signBit}
 use Rattle.answer.specs.Answer.{beside}
 use Rattle.plane.specs.Interval.{between, endOf, intersects}
 use Rattle.plane.specs.Rect.{intersectsRect}
 use Rattle.clip.specs.Cut.{negativeSlope, valueAt, inward, withEnd, movedEnd, otherMoved, sideCut, thenHigh, axisCut, afterY, afterX, thenY, boxCut, crossed, edgeMeets}
 use Rattle.clip.specs.Refuse.{coordinate, side, planeRefusal, sidesFine, windowFine}
 use Rattle.clip.specs.Answers.{ends, edgeAnswer, clipped}
+use Rattle.cube.specs.Vector.{finiteVector, isZero}
+use Rattle.cube.specs.Faces.{byFace, along, greater, faceOf, uvOf}
+use Rattle.cube.specs.Refuse.{cubeRefusal}
+use Rattle.line.specs.Line.{meetsFace, passesOppositeEdges, sumEqual, byAxis, axisOf, exitAxis, oneIf, exitPoint}
 use Rattle.instances.specs.Instances.{Instances}
 
 pub instances : Instances
-unfolding ofBits add sub mul div neg lt le eq when_then_else_ finite magnitudeOf beside between endOf intersects intersectsRect negativeSlope valueAt inward withEnd movedEnd otherMoved sideCut thenHigh axisCut afterY afterX thenY boxCut crossed edgeMeets coordinate side planeRefusal sidesFine windowFine ends edgeAnswer clipped
-instances = record { p1 = refl; p2 = refl; p3 = refl; p4 = refl; p4-meets = refl; p5 = refl; p6 = refl }
+unfolding ofBits add sub mul div neg lt le eq when_then_else_ finite magnitudeOf beside between endOf intersects intersectsRect negativeSlope valueAt inward withEnd movedEnd otherMoved sideCut thenHigh axisCut afterY afterX thenY boxCut crossed edgeMeets coordinate side planeRefusal sidesFine windowFine ends edgeAnswer clipped signBit finiteVector isZero byFace along greater faceOf uvOf cubeRefusal meetsFace passesOppositeEdges sumEqual byAxis axisOf exitAxis oneIf exitPoint
+instances = record { p1 = refl; p2 = refl; p3 = refl; p4 = refl; p4-meets = refl; p5 = refl; p6 = refl; p7 = refl; p7-minus = refl; p8 = refl; p9 = refl; p9-more = refl; p10 = refl; p11 = refl; p12 = refl; p12-point = refl }

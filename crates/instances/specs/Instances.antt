@@ -1,19 +1,37 @@
 -- Document 01's instances marked P, one table under a single statement, over the definitions that the contracts cite.
 use mathlib.Core.Path.{_≡_}
-use mathlib.Core.Bool.{false}
+use mathlib.Core.Bool.{Bool, true, false}
 use lib.Ieee.{Float}
 use Rattle.answer.specs.Answer.{yesNoAnswer}
+use Rattle.answer.specs.declared.YesNo.{YesNo}
 use Rattle.plane.specs.Point.{at}
 use Rattle.clip.specs.declared.Clipped.{Clipped}
 use Rattle.clip.specs.declared.Clipped.the-variants.{Kept, Missed, Refused}
 use Rattle.clip.specs.Cut.{edgeMeets}
 use Rattle.clip.specs.Refuse.{edgeRefusal}
 use Rattle.clip.specs.Answers.{clipped}
-use Rattle.instances.specs.Numbers.{n0, n¼, n½, n¾, n1, n1½, n2, n3, n4, huge, -huge, notANumber, x_to_y_to_}
+use Rattle.cube.specs.Vector.{vec, zeroVector}
+use Rattle.cube.specs.Faces.{faceOf, uvOf}
+use Rattle.cube.specs.Refuse.{vectorRefusal}
+use Rattle.cube.specs.Answers.{faceAnswer, faceUvAnswer, uvAnswer}
+use Rattle.cube.specs.declared.vector.Vector.{Vector}
+use Rattle.cube.specs.declared.FaceUv.{FaceUv}
+use Rattle.line.specs.Line.{meetsFace, passesOppositeEdges, sumEqual, exitAxis, exitPoint}
+use Rattle.line.specs.Refuse.{lineRefusal, exitRefusal}
+use Rattle.line.specs.Answers.{axisAnswer}
+use Rattle.line.specs.declared.compute.Axis.the-variants.{«V»}
+use Rattle.instances.specs.Numbers.{n0, -n1, tiny, n2+, n¼, n½, n¾, n1, n1½, n2, n3, n4, huge, -huge, notANumber, x_to_y_to_}
 
 -- kept from one point to another
 abbrev pub keptFrom : Float → Float → Float → Float → Clipped
 keptFrom ax ay bx by = Kept (record { ax = ax; ay = ay; bx = bx; by = by })
+
+-- the answer of xyz_to_face_uv, and of a line test
+abbrev pub faced : Vector → FaceUv
+faced p = faceUvAnswer (vectorRefusal p) (faceOf p) (uvOf (faceOf p) p)
+
+abbrev pub asked : (Vector → Bool) → Vector → YesNo
+asked test n = yesNoAnswer (lineRefusal n) (test n)
 
 pub record Instances : Type 0 where
   -- (0,0)-(4,2), window x 1..3, y 0..2
@@ -29,3 +47,18 @@ pub record Instances : Type 0 where
   pub p5 : clipped (at n0 n0) (at n4 notANumber) (x n1 to n3 y n0 to n2) ≡ Refused 2
   -- (-2^1023,0)-(2^1023,1), x 0..1, y 0..1
   pub p6 : clipped (at -huge n0) (at huge n1) (x n0 to n1 y n0 to n1) ≡ keptFrom n0 n0 n1 n0
+  -- face of (1,1,1), and of (-1,1,1): 0 at (1,1), 3 at (-1,-1)
+  pub p7 : faced (vec n1 n1 n1) ≡ record { number = 0; face = 0; u = n1; v = n1 }
+  pub p7-minus : faced (vec -n1 n1 n1) ≡ record { number = 0; face = 3; u = -n1; v = -n1 }
+  -- face of the zero vector
+  pub p8 : faceAnswer (vectorRefusal zeroVector) (faceOf zeroVector) ≡ record { number = 5; face = 0 }
+  -- N (1,1,2), and (1,1,2+2^-51), meets face: yes, no
+  pub p9 : asked meetsFace (vec n1 n1 n2) ≡ record { number = 0; yes = true }
+  pub p9-more : asked meetsFace (vec n1 n1 n2+) ≡ record { number = 0; yes = false }
+  -- N (3,1,2) passes opposite edges
+  pub p10 : asked passesOppositeEdges (vec n3 n1 n2) ≡ record { number = 0; yes = true }
+  -- sum_equal 1, 2^-53, 1
+  pub p11 : yesNoAnswer (lineRefusal (vec n1 tiny n1)) (sumEqual n1 tiny n1) ≡ record { number = 0; yes = false }
+  -- N (1,1,1) exit: V, (0,-1)
+  pub p12 : axisAnswer (vectorRefusal (vec n1 n1 n1)) (exitAxis (vec n1 n1 n1)) ≡ record { number = 0; axis = «V» }
+  pub p12-point : uvAnswer (exitRefusal (vec n1 n1 n1) «V») (exitPoint (vec n1 n1 n1) «V») ≡ record { number = 0; u = n0; v = -n1 }

@@ -31,6 +31,16 @@ n3 = ofBits binary64 0x4008_0000_0000_0000
 abbrev pub n4 : Float
 n4 = ofBits binary64 0x4010_0000_0000_0000
 
+abbrev pub -n1 : Float
+-n1 = ofBits binary64 0xbff0_0000_0000_0000
+
+-- 2 ^ -53, and 2 + 2 ^ -51
+abbrev pub tiny : Float
+tiny = ofBits binary64 0x3ca0_0000_0000_0000
+
+abbrev pub n2+ : Float
+n2+ = ofBits binary64 0x4000_0000_0000_0001
+
 -- 2 ^ 1023 and its negative
 abbrev pub huge : Float
 huge = ofBits binary64 0x7fe0_0000_0000_0000

@@ -1,0 +1,20 @@
+-- `both_finite`: one, and the other.
+use borrow.Author.Needs.{needs}
+use Rattle.cube.proofs.refuse.both_finite.Statement.{statement}
+use Rattle.cube.proofs.refuse.both_finite.Tie as tie
+
+is-finite-requires : tie.Need-is-finite-requires
+is-finite-requires c κs = search needs
+
+is-finite-requires-2 : tie.Need-is-finite-requires-2
+is-finite-requires-2 c κs = search needs
+
+both-requires : tie.Need-both-requires
+both-requires c κs = search needs
+
+returns : tie.Need-returns
+returns c = cc
+
+pub both-finite-spec : {M : Type 1} → statement M
+both-finite-spec =
+    tie.close (tie.spec is-finite-requires is-finite-requires-2 both-requires returns)

@@ -1,0 +1,19 @@
+-- The entry `u_axis`.
+use borrow.Author.Needs.{needs}
+use Rattle.cube.proofs.u_axis.Statement.{statement}
+use Rattle.cube.proofs.u_axis.Tie as tie
+
+face-requires : tie.Need-face-requires
+face-requires c κs = search needs
+
+u-axis-requires : tie.Need-u-axis-requires
+u-axis-requires c κs = search needs
+
+answer-requires : tie.Need-answer-requires
+answer-requires c κs = search needs
+
+returns : tie.Need-returns
+returns c = cc
+
+pub u-axis-spec : {M : Type 1} → statement M
+u-axis-spec = tie.close (tie.spec face-requires u-axis-requires answer-requires returns)

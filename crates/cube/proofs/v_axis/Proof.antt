@@ -1,0 +1,19 @@
+-- The entry `v_axis`.
+use borrow.Author.Needs.{needs}
+use Rattle.cube.proofs.v_axis.Statement.{statement}
+use Rattle.cube.proofs.v_axis.Tie as tie
+
+face-requires : tie.Need-face-requires
+face-requires c κs = search needs
+
+v-axis-requires : tie.Need-v-axis-requires
+v-axis-requires c κs = search needs
+
+answer-requires : tie.Need-answer-requires
+answer-requires c κs = search needs
+
+returns : tie.Need-returns
+returns c = cc
+
+pub v-axis-spec : {M : Type 1} → statement M
+v-axis-spec = tie.close (tie.spec face-requires v-axis-requires answer-requires returns)

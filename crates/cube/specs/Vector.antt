@@ -1,0 +1,19 @@
+-- The vector, and what is asked of one.
+use mathlib.Core.Bool.{Bool}
+use lib.Ieee.{Float, eq}
+use Rattle.float.specs.Choice.{_and_}
+use Rattle.float.specs.Float.{zeroF, finite}
+use Rattle.cube.specs.declared.vector.Vector.{Vector}
+
+abbrev pub vec : Float → Float → Float → Vector
+vec x y z = record { x = x; y = y; z = z }
+
+abbrev pub zeroVector : Vector
+zeroVector = vec zeroF zeroF zeroF
+
+unfoldable pub finiteVector : Vector → Bool
+finiteVector p = finite (p .x) and finite (p .y) and finite (p .z)
+
+-- all zero, of either sign
+unfoldable pub isZero : Vector → Bool
+isZero p = eq (p .x) zeroF and eq (p .y) zeroF and eq (p .z) zeroF
