@@ -1,6 +1,9 @@
 -- Document 01's instances marked P, one table under a single statement, over the definitions that the contracts cite.
 use mathlib.Core.Path.{_≡_}
+use Prim.Native.Nat.{ℕ}
 use mathlib.Core.Bool.{Bool, true, false}
+use mathlib.Core.List.{[], _∷_, _++_}
+use lib.ListN.{length, replicate}
 use lib.Ieee.{Float}
 use Rattle.answer.specs.Answer.{yesNoAnswer}
 use Rattle.answer.specs.declared.YesNo.{YesNo}
@@ -11,7 +14,7 @@ use Rattle.clip.specs.Cut.{edgeMeets}
 use Rattle.clip.specs.Refuse.{edgeRefusal}
 use Rattle.clip.specs.Answers.{clipped}
 use Rattle.cube.specs.Vector.{vec, zeroVector}
-use Rattle.cube.specs.Faces.{faceOf, uvOf}
+use Rattle.cube.specs.Faces.{faceOf, uv, uvOf}
 use Rattle.cube.specs.Refuse.{vectorRefusal}
 use Rattle.cube.specs.Answers.{faceAnswer, faceUvAnswer, uvAnswer}
 use Rattle.cube.specs.declared.vector.Vector.{Vector}
@@ -20,7 +23,12 @@ use Rattle.line.specs.Line.{meetsFace, passesOppositeEdges, sumEqual, exitAxis,
 use Rattle.line.specs.Refuse.{lineRefusal, exitRefusal}
 use Rattle.line.specs.Answers.{axisAnswer}
 use Rattle.line.specs.declared.compute.Axis.the-variants.{«V»}
-use Rattle.instances.specs.Numbers.{n0, -n1, tiny, n2+, n¼, n½, n¾, n1, n1½, n2, n3, n4, huge, -huge, notANumber, x_to_y_to_}
+use Rattle.cube.specs.declared.compute.Uv.{Uv}
+use Rattle.walk.specs.Walk.{segment, segments, recordsOf}
+use Rattle.walk.specs.Refuse.{walkNumber}
+use Rattle.walk.specs.Answers.{walkAnswer, bufferAfter}
+use Rattle.walk.specs.declared.compute.WalkAnswer.{WalkAnswer}
+use Rattle.instances.specs.Numbers.{n0, -n0, -n1, tiny, n2+, n¼, n½, n¾, n1, n1½, n2, n3, n4, huge, -huge, notANumber, x_to_y_to_}
 
 -- kept from one point to another
 abbrev pub keptFrom : Float → Float → Float → Float → Clipped
@@ -32,6 +40,16 @@ faced p = faceUvAnswer (vectorRefusal p) (faceOf p) (uvOf (faceOf p) p)
 
 abbrev pub asked : (Vector → Bool) → Vector → YesNo
 asked test n = yesNoAnswer (lineRefusal n) (test n)
+
+-- the walk with a normal from (0,0) of face 0 to (0,0) of a target, with so many bytes lent
+abbrev pub middle : Uv
+middle = uv n0 n0
+
+abbrev pub up : Vector
+up = vec n0 n0 n1
+
+abbrev pub walked : ℕ → Vector → ℕ → WalkAnswer
+walked bytes n t = walkAnswer (walkNumber bytes 0 middle t middle n) (length (segments 8 n 0 middle t middle))
 
 pub record Instances : Type 0 where
   -- (0,0)-(4,2), window x 1..3, y 0..2
@@ -62,3 +80,17 @@ pub record Instances : Type 0 where
   -- N (1,1,1) exit: V, (0,-1)
   pub p12 : axisAnswer (vectorRefusal (vec n1 n1 n1)) (exitAxis (vec n1 n1 n1)) ≡ record { number = 0; axis = «V» }
   pub p12-point : uvAnswer (exitRefusal (vec n1 n1 n1) «V») (exitPoint (vec n1 n1 n1) «V») ≡ record { number = 0; u = n0; v = -n1 }
+  -- normal (0,0,1), face 0 (0,0) to face 3 (0,0): three segments; by IEEE 754 three of its zeros are -0
+  pub p13 : segments 8 up 0 middle 3 middle
+      ≡ segment 0 middle (uv n1 -n0) ∷ segment 1 (uv -n1 -n0) (uv n1 n0) ∷ segment 3 (uv -n0 -n1) middle ∷ []
+  pub p13-answer : walked 120 up 3 ≡ record { number = 0; count = 3 }
+  -- with a byte less, and with bytes to spare: the records, then the old bytes
+  pub p13-short : walked 119 up 3 ≡ record { number = 8; count = 0 }
+  pub p13-bytes : bufferAfter (replicate 122 165) 0 middle 3 middle up ≡ recordsOf (segments 8 up 0 middle 3 middle) ++ (165 ∷ 165 ∷ [])
+  pub p13-unchanged : bufferAfter (replicate 119 165) 0 middle 3 middle up ≡ replicate 119 165
+  -- same, target 2
+  pub p14 : walked 400 up 2 ≡ record { number = 7; count = 0 }
+  -- normal (1,0,0), face 0 to 1; and face 5 is admitted, 6 refused
+  pub off-face : walked 400 (vec n1 n0 n0) 1 ≡ record { number = 6; count = 0 }
+  pub face-five : walked 40 up 5 ≡ record { number = 7; count = 0 }
+  pub face-six : walked 400 up 6 ≡ record { number = 4; count = 0 }

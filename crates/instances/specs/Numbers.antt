@@ -31,6 +31,9 @@ n3 = ofBits binary64 0x4008_0000_0000_0000
 abbrev pub n4 : Float
 n4 = ofBits binary64 0x4010_0000_0000_0000
 
+abbrev pub -n0 : Float
+-n0 = ofBits binary64 0x8000_0000_0000_0000
+
 abbrev pub -n1 : Float
 -n1 = ofBits binary64 0xbff0_0000_0000_0000
 

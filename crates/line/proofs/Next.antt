@@ -20,8 +20,8 @@ use Rattle.cube.proofs.Six.{six}
 use Rattle.cube.proofs.Promises.{promises}
 use Rattle.line.specs.declared.compute.Axis.{Axis}
 use Rattle.line.specs.declared.compute.Axis.the-variants.{U, «V»}
-use Rattle.line.specs.Line.{byAxis, meetsFace, exitAxis, oneIf, divisor, otherAxis, coordinate, axisNumber, directionOf, neighbourOver, atCorner, nextFace}
-use Rattle.line.specs.Promises.{size, Finite, leftAt, onward, Enters}
+use Rattle.line.specs.Line.{byAxis, meetsFace, exitAxis, oneIf, divisor, otherAxis, coordinate, axisNumber, directionOf, neighbourOver, atCorner, nextFace, leftAt, onward}
+use Rattle.line.specs.Promises.{size, Finite, Enters}
 use Rattle.line.proofs.Normal.{meets-is, zero-is}
 use Rattle.line.proofs.Exit.{along, gap, leaves}
 use Rattle.line.proofs.Corner.{exit-corner, corner-coordinate, through-size, leaves-at}

@@ -5,7 +5,7 @@ use lib.Dec.{eqb}
 use lib.Ieee.{Float, lt, le, eq, neg, unlike}
 use Rattle.float.specs.Choice.{when_then_else_, _and_}
 use Rattle.float.specs.Float.{_⊕_, _⊖_, _⊗_, _⊘_, zeroF, oneF, magnitudeOf, signBit}
-use Rattle.cube.specs.Faces.{uv, neighbour}
+use Rattle.cube.specs.Faces.{uv, uvwOf, neighbour}
 use Rattle.cube.specs.declared.vector.Vector.{Vector}
 use Rattle.line.specs.declared.compute.Axis.{Axis}
 use Rattle.line.specs.declared.compute.Axis.the-variants.{U, «V»}
@@ -109,3 +109,12 @@ atCorner f e a n t =
 -- The neighbour over the exit axis; at such a corner the target.
 unfoldable pub nextFace : ℕ → Uv → Axis → Vector → ℕ → ℕ
 nextFace f e a n t = when atCorner f e a n t then t else neighbourOver f a e
+
+-- ---- a step of the walk, for the line with the normal p in x, y, z
+
+-- where it leaves the face f, and the face where it goes on toward the target t
+abbrev pub leftAt : Vector → ℕ → Uv
+leftAt p f = let n = uvwOf f p in exitPoint n (exitAxis n)
+
+abbrev pub onward : Vector → ℕ → ℕ → ℕ
+onward p f t = let n = uvwOf f p in nextFace f (leftAt p f) (exitAxis n) n t

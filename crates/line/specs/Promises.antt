@@ -15,7 +15,7 @@ use Rattle.cube.specs.Promises.{InUnit}
 use Rattle.cube.specs.declared.vector.Vector.{Vector}
 use Rattle.cube.specs.declared.compute.Uv.{Uv}
 use Rattle.line.specs.declared.compute.Axis.{Axis}
-use Rattle.line.specs.Line.{meetsFace, passesOppositeEdges, sumEqual, exitAxis, oneIf, exitPoint, divisor, otherAxis, coordinate, neighbourOver, atCorner, nextFace}
+use Rattle.line.specs.Line.{meetsFace, passesOppositeEdges, sumEqual, exitAxis, oneIf, exitPoint, divisor, otherAxis, coordinate, neighbourOver, atCorner, leftAt, onward}
 
 abbrev pub exact : Float → ℤ
 exact x = units binary64 x
@@ -82,13 +82,6 @@ pub record LeavesTo (n : Vector) (a : Axis) (f t : ℕ) : Type 0 where
   pub corner : PassesTo n a f t i j
 
 -- ---- the next face
-
--- where the line with the normal p leaves the face f, and the face where it goes on toward the target t
-abbrev pub leftAt : Vector → ℕ → Uv
-leftAt p f = let n = uvwOf f p in exitPoint n (exitAxis n)
-
-abbrev pub onward : Vector → ℕ → ℕ → ℕ
-onward p f t = let n = uvwOf f p in nextFace f (leftAt p f) (exitAxis n) n t
 
 -- g is a face, the line meets it, and the point where the line leaves f lies on it: its w there is 1
 pub record Enters (p : Vector) (f g : ℕ) : Type 0 where

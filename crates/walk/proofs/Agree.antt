@@ -1,0 +1,206 @@
+-- The step on floats is the step on kinds, in one face: n is the normal in its u, v, w, and m the sum of its sizes.
+use mathlib.Core.Path.{_≡_, refl, sym, ap, _∙_}
+use mathlib.Core.Logic.{inl, inr}
+use mathlib.Core.Bool.{Bool, true, false, not, _&&_, _||_, cond}
+use Prim.Native.Nat.{ℕ, _+_, _<_}
+use native.Mathlib.Nat.{pos-of-ne-zero}
+use native.Mathlib.Omega.{arith}
+use lib.Dec.{leb, eqb}
+use borrow.Author.Tests.{le-leb, lt-leb, eq-eqb, eqb-true, eqb-false}
+use lib.IntN.{_*ℤ_}
+use lib.Ieee.{Float, unlike, lt, neg, ofBits}
+use Rattle.float.specs.Choice.{when_then_else_}
+use Rattle.float.specs.Float.{zeroF, signBit}
+use Rattle.float.specs.Exact.{signed}
+use Rattle.float.proofs.Choice.{same, split}
+use Rattle.float.proofs.Whole.{le-or-lt}
+use Rattle.float.proofs.Plain.{plain, le-units}
+use Rattle.float.proofs.Signed.{turned}
+use Rattle.float.proofs.Unit.{signed-one}
+use Rattle.float.proofs.Zero.{lt-nought, nought-lt}
+use Rattle.cube.specs.Vector.{isZero}
+use Rattle.cube.specs.Faces.{neighbour}
+use Rattle.cube.specs.declared.vector.Vector.{Vector}
+use Rattle.cube.proofs.Six.{both}
+use Rattle.line.specs.declared.compute.Axis.{Axis}
+use Rattle.line.specs.declared.compute.Axis.the-variants.{U, «V»}
+use Rattle.line.specs.Line.{byAxis, meetsFace, passesOppositeEdges, axisOf, evenSigns, exitAxis, oneIf, exitPoint, directionOf, atCorner, nextFace}
+use Rattle.line.specs.Promises.{size, Finite, apart, wholeIf, Through}
+use Rattle.line.proofs.Normal.{u-held, v-held, zero-is, opposite-is}
+use Rattle.line.proofs.Exit.{isV, leaves, exit-side}
+use Rattle.line.proofs.Corner.{exit-corner}
+use Rattle.walk.proofs.Kind.{Part, partOf, total, throughK, onVK, overU, overV, hit, stepK}
+use Rattle.walk.proofs.Balance.{to-test, of-test}
+
+-- ---- the exit axis, on whole numbers: m is a + b + c
+axis-is : (a b c m : ℕ) (x : Bool) → m ≡ a + b + c → cond (leb c (apart a b)) (leb b a) x ≡ (leb m (a + a) || (not (leb m (b + b)) && x))
+axis-is a b c m x e =
+    elim (le-or-lt m (a + a)) [
+      | inl h ↦
+          let p : leb m (a + a) ≡ true = le-leb m (a + a) h in
+          let q : leb c (apart a b) ≡ true = le-leb c (apart a b) (omega arith) in
+          let r : leb b a ≡ true = le-leb b a (omega arith) in
+          rw (p, q, r)
+      | inr h ↦
+          elim (le-or-lt m (b + b)) [
+            | inl k ↦
+                let p : leb m (a + a) ≡ false = lt-leb m (a + a) h in
+                let q : leb c (apart a b) ≡ true = le-leb c (apart a b) (omega arith) in
+                let r : leb b a ≡ false = lt-leb b a (omega arith) in
+                let s : leb m (b + b) ≡ true = le-leb m (b + b) k in
+                rw (p, q, r, s)
+            | inr k ↦
+                let p : leb m (a + a) ≡ false = lt-leb m (a + a) h in
+                let q : leb c (apart a b) ≡ false = lt-leb c (apart a b) (omega arith) in
+                let s : leb m (b + b) ≡ false = lt-leb m (b + b) k in
+                rw (p, q, s)
+          ]
+    ]
+
+axis-v : (b : Bool) (a : Axis) → axisOf b ≡ a → b ≡ isV a
+axis-v b a e = is-v b ∙ ap isV e
+  where
+    is-v : (b : Bool) → b ≡ isV (axisOf b)
+    is-v true = unfold byAxis axisOf when_then_else_ in refl
+    is-v false = unfold byAxis axisOf when_then_else_ in refl
+
+-- ---- a corner of the exit edge
+hit-is : (c : Bool) (t : ℕ) (through : Bool → Bool) (other : Bool → ℕ) → (c ≡ true → (j : Bool) × (through j ≡ true) × (other j ≡ t)) → ((j : Bool) → through j ≡ true → other j ≡ t → c ≡ true)
+    → c ≡ hit t through other
+hit-is c t through other f g = same c (hit t through other) (λ h. let (j, p, q) = f h in into j p q) (λ h. out (through true && eqb (other true) t) (through false && eqb (other false) t) h refl refl)
+  where
+    into : (j : Bool) → through j ≡ true → other j ≡ t → hit t through other ≡ true
+    into true p q = rw (p, eq-eqb (other true) t q)
+    into false p q = rw (p, eq-eqb (other false) t q) (last (through true && eqb (other true) t))
+      where
+        last : (b : Bool) → (b || true) ≡ true
+        last true = refl
+        last false = refl
+
+    at : (j : Bool) → (through j && eqb (other j) t) ≡ true → c ≡ true
+    at j h = let (p, q) = both (through j) (eqb (other j) t) h in g j p (eqb-true (other j) t q)
+
+    out : (x y : Bool) → (x || y) ≡ true → (through true && eqb (other true) t) ≡ x → (through false && eqb (other false) t) ≡ y → c ≡ true
+    out true y h p q = at true p
+    out false y h p q = at false (q ∙ h)
+
+choose : {b c : Bool} (x : ℕ) {y z : ℕ} → b ≡ c → y ≡ z → (when b then x else y) ≡ cond c x z
+choose {b} {c} x {y} {z} p q = rw (p, q) (go c)
+  where
+    go : (c : Bool) → (when c then x else z) ≡ cond c x z
+    go true = unfold when_then_else_ in refl
+    go false = unfold when_then_else_ in refl
+
+-- ---- a side: 1 if plus, else -1
+direction-is : (plus : Bool) → directionOf (oneIf plus) ≡ cond plus 1 0
+unfolding directionOf oneIf when_then_else_ lt neg ofBits
+direction-is true = refl
+direction-is false = refl
+
+one-if-inj : (i j : Bool) → oneIf i ≡ oneIf j → i ≡ j
+one-if-inj i j e = sym (above i) ∙ ap (λ (x : Float). lt zeroF x) e ∙ above j
+  where
+    above : (i : Bool) → lt zeroF (oneIf i) ≡ i
+    above true = unfold oneIf when_then_else_ neg lt ofBits in refl
+    above false = unfold oneIf when_then_else_ neg lt ofBits in refl
+
+factor-is-signed : (plus s : Bool) (n : ℕ) → wholeIf plus *ℤ signed s n ≡ signed (unlike (not plus) s) n
+factor-is-signed true s n = signed-one false s n
+factor-is-signed false s n = signed-one true s n
+
+module _ {n : Vector} (v : Finite n) (nz : isZero n ≡ false) (met : meetsFace n ≡ true) (m : ℕ) (e : m ≡ total n) where
+  abbrev pub u-part : Part
+  u-part = partOf m (n .x)
+
+  abbrev pub v-part : Part
+  v-part = partOf m (n .y)
+
+  abbrev pub w-part : Part
+  w-part = partOf m (n .z)
+
+  some : 0 < m
+  some = rw e (pos-of-ne-zero (eqb-false _ 0 (sym (zero-is v) ∙ nz)))
+
+  axis-kind : (a : Axis) → exitAxis n ≡ a → onVK u-part v-part w-part ≡ isV a
+  unfolding exitAxis
+  axis-kind a h =
+      let x = size (n .x) in
+      let y = size (n .y) in
+      let z = size (n .z) in
+      let k = sym (axis-is x y z m (evenSigns n) e) in
+      split (passesOppositeEdges n) _ _ a h
+      (λ o g. let q : leb z (apart x y) ≡ true = sym (opposite-is v) ∙ o in k ∙ (rw q (sym (le-units (plain (v-held v) .is) (plain (u-held v) .is)) ∙ axis-v _ a g)))
+      (λ o g. let q : leb z (apart x y) ≡ false = sym (opposite-is v) ∙ o in k ∙ (rw q (axis-v _ a g)))
+
+  -- ---- through a corner
+  module _ (i j : Bool) where
+    u-sign : Bool
+    u-sign = unlike (not i) (signBit (n .x))
+
+    v-sign : Bool
+    v-sign = unlike (not j) (signBit (n .y))
+
+    through-to : Through n i j → throughK i j u-part v-part w-part ≡ true
+    unfolding u-sign v-sign
+    through-to h =
+        let x = factor-is-signed i (signBit (n .x)) (size (n .x)) in
+        let y = factor-is-signed j (signBit (n .y)) (size (n .y)) in
+        let z = turned (signBit (n .z)) (size (n .z)) in
+        to-test (size (n .x)) (size (n .y)) (size (n .z)) m (signBit (n .x)) (signBit (n .y)) (signBit (n .z)) e some u-sign v-sign (not (signBit (n .z))) (rw (x, y, z) at h)
+
+    through-of : throughK i j u-part v-part w-part ≡ true → Through n i j
+    unfolding u-sign v-sign
+    through-of h =
+        let x = factor-is-signed i (signBit (n .x)) (size (n .x)) in
+        let y = factor-is-signed j (signBit (n .y)) (size (n .y)) in
+        let z = turned (signBit (n .z)) (size (n .z)) in
+        rw (x, y, z) (of-test (size (n .x)) (size (n .y)) (size (n .z)) m (signBit (n .x)) (signBit (n .y)) (signBit (n .z)) e some u-sign v-sign (not (signBit (n .z))) h)
+
+  -- ---- the side of the exit
+  side-u : exitAxis n ≡ U → exitPoint n U .u ≡ oneIf (not (signBit (n .y)))
+  unfolding byAxis ofBits
+  side-u h = exit-side n U ∙ ap oneIf (nought-lt (v-held v .is-own) (leaves v nz met U h .divides))
+
+  side-v : exitAxis n ≡ «V» → exitPoint n «V» .v ≡ oneIf (signBit (n .x))
+  unfolding byAxis ofBits
+  side-v h = exit-side n «V» ∙ ap oneIf (lt-nought (u-held v .is-own) (leaves v nz met «V» h .divides))
+
+  -- ---- the next face, by the exit axis
+  module _ (f t : ℕ) where
+    corner-u : exitAxis n ≡ U → atCorner f (exitPoint n U) U n t ≡ hit t (λ j. throughK (not (signBit (n .y))) j u-part v-part w-part) (overV f)
+    unfolding byAxis
+    corner-u h =
+        let k = not (signBit (n .y)) in
+        let s = side-u h in
+        let c = exit-corner v U (leaves v nz met U h) f t in
+        hit-is (atCorner f (exitPoint n U) U n t) t (λ j. throughK k j u-part v-part w-part) (overV f)
+        (λ g.
+        let d = c .0 g in
+        let q = one-if-inj (d .i) k (d .edge ∙ s) in
+        (d .j, rw q at (through-to (d .i) (d .j) (d .corner .through)), ap (neighbour f 1) (sym (direction-is (d .j))) ∙ d .corner .target))
+        (λ j g q. c .1 (record { i = k; j = j; edge = sym s; corner = record { through = through-of k j g; target = ap (neighbour f 1) (direction-is j) ∙ q } }))
+
+    corner-v : exitAxis n ≡ «V» → atCorner f (exitPoint n «V») «V» n t ≡ hit t (λ i. throughK i (signBit (n .x)) u-part v-part w-part) (overU f)
+    unfolding byAxis
+    corner-v h =
+        let k = signBit (n .x) in
+        let s = side-v h in
+        let c = exit-corner v «V» (leaves v nz met «V» h) f t in
+        hit-is (atCorner f (exitPoint n «V») «V» n t) t (λ i. throughK i k u-part v-part w-part) (overU f)
+        (λ g.
+        let d = c .0 g in
+        let q = one-if-inj (d .j) k (d .edge ∙ s) in
+        (d .i, rw q at (through-to (d .i) (d .j) (d .corner .through)), ap (neighbour f 0) (sym (direction-is (d .i))) ∙ d .corner .target))
+        (λ i g q. c .1 (record { i = i; j = k; edge = sym s; corner = record { through = through-of i k g; target = ap (neighbour f 0) (direction-is i) ∙ q } }))
+
+    pub step-is : nextFace f (exitPoint n (exitAxis n)) (exitAxis n) n t ≡ stepK t f u-part v-part w-part
+    unfolding nextFace byAxis
+    step-is = go (exitAxis n) refl
+      where
+        go : (a : Axis) → exitAxis n ≡ a → nextFace f (exitPoint n a) a n t ≡ stepK t f u-part v-part w-part
+        go U h =
+            let o = axis-kind U h in
+            rw o (choose t (corner-u h) (ap (λ (c : Float). neighbour f 0 (directionOf c)) (side-u h) ∙ ap (neighbour f 0) (direction-is (not (signBit (n .y))))))
+        go «V» h =
+            let o = axis-kind «V» h in
+            rw o (choose t (corner-v h) (ap (λ (c : Float). neighbour f 1 (directionOf c)) (side-v h) ∙ ap (neighbour f 1) (direction-is (signBit (n .x)))))

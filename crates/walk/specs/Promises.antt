@@ -1,0 +1,75 @@
+-- What is promised of the walk, over the definitions. Statements only; proofs/Promises.antt has their proofs.
+use Prim.Native.Nat.{ℕ, _≤_}
+use mathlib.Core.Path.{_≡_}
+use mathlib.Core.Logic.{_↔_}
+use mathlib.Core.Bool.{Bool, true, false}
+use mathlib.Core.List.{List, [], _∷_}
+use lib.ListN.{length}
+use Rattle.float.specs.Choice.{when_then_else_}
+use Rattle.float.specs.Float.{oneF}
+use Rattle.answer.specs.Answer.{done, offFace, unfinished}
+use Rattle.cube.specs.Vector.{vec, isZero}
+use Rattle.cube.specs.Faces.{pointAt, uvwOf}
+use Rattle.cube.specs.Promises.{InUnit}
+use Rattle.cube.specs.declared.vector.Vector.{Vector}
+use Rattle.cube.specs.declared.compute.Uv.{Uv}
+use Rattle.line.specs.declared.compute.Axis.{Axis}
+use Rattle.line.specs.Line.{oneIf, otherAxis, coordinate}
+use Rattle.line.specs.Promises.{Finite}
+use Rattle.walk.specs.Walk.{met, stopNumber, Segment, segments}
+use Rattle.walk.specs.Refuse.{inputRefusal, walkNumber}
+
+-- a finite normal that is not zero, and a first face that the line meets
+pub record Begun (p : Vector) (f t : ℕ) : Type 0 where
+  pub finite : Finite p
+  pub some : isZero p ≡ false
+  pub face : f ≤ 5
+  pub target : t ≤ 5
+  pub meets : met p f ≡ true
+
+-- ---- from segment to segment
+
+-- the coordinate on the axis is exactly 1 or -1
+pub record OneOn (a : Axis) (e : Uv) : Type 0 where
+  pub plus : Bool
+  pub one : coordinate a e ≡ oneIf plus
+
+-- one coordinate exactly 1 or -1, the other from -1 to 1
+pub record OnEdge (e : Uv) : Type 0 where
+  pub axis : Axis
+  pub one : OneOn axis e
+  pub inside : InUnit (coordinate (otherAxis axis) e)
+
+-- the segment r after s: s ends at an edge, and the line also meets the face of r;
+-- r begins at the point where s ended, in the new face's coordinates, where its w is exactly 1 and one of its two coordinates exactly 1 or -1
+pub record Follows (p : Vector) (s r : Segment) : Type 0 where
+  pub leaves : OnEdge (s .b)
+  pub face : r .face ≤ 5
+  pub meets : met p (r .face) ≡ true
+  pub begins : uvwOf (r .face) (pointAt (s .face) (s .b .u) (s .b .v)) ≡ vec (r .a .u) (r .a .v) oneF
+  pub enters : (a : Axis) × OneOn a (r .a)
+
+-- every segment but the last is so followed
+unfoldable pub FollowedBy : Vector → Segment → List Segment → Type 0
+FollowedBy p s [] = Unit
+FollowedBy p s (r ∷ rs) = Follows p s r
+
+unfoldable pub Linked : Vector → List Segment → Type 0
+Linked p [] = Unit
+Linked p (s ∷ ss) = FollowedBy p s ss × Linked p ss
+
+-- ---- all of it
+
+pub record Promises : Type 0 where
+  -- each segment but the last is followed by the next
+  pub linked : (p : Vector) (f t : ℕ) → Begun p f t → (a b : Uv) → Linked p (segments 8 p f a t b)
+  -- so number 6 is never given
+  pub never-off : (p : Vector) (f t : ℕ) → Begun p f t → stopNumber 8 p f t ≡ offFace → ⊥
+  -- whatever the normal, where 6 is not given: 7 exactly when no longer walk, with however many faces, would arrive
+  pub never-arrives : (p : Vector) (f t : ℕ) → f ≤ 5 → t ≤ 5 → (stopNumber 8 p f t ≡ offFace → ⊥) → (stopNumber 8 p f t ≡ unfinished) ↔ ((k : ℕ) → stopNumber k p f t ≡ done → ⊥)
+  -- it arrives exactly when the line meets the target
+  pub arrives : (p : Vector) (f t : ℕ) → Begun p f t → stopNumber 8 p f t ≡ (when met p t then done else unfinished)
+  -- and then has at most six segments
+  pub six : (p : Vector) (f t : ℕ) → Begun p f t → stopNumber 8 p f t ≡ done → (a b : Uv) → length (segments 8 p f a t b) ≤ 6
+  -- so that 240 bytes always hold it: the number given for input that is admitted is 0 where the line meets the target, and else 7
+  pub given : (p : Vector) (f t : ℕ) → Begun p f t → (a b : Uv) → inputRefusal f a t b p ≡ done → (bytes : ℕ) → 240 ≤ bytes → walkNumber bytes f a t b p ≡ (when met p t then done else unfinished)

@@ -1,0 +1,86 @@
+// The walk along a line from face to face.
+//
+// `walk` is the entry: it answers the number of what is refused, in document 01's order (4, 2, 5,
+// then 6 or 7 as the walk finds them, then 8), and beside 0 the count of its segments, whose records
+// it writes. `compute` has the walk itself, for any normal and any points, and refuses nothing.
+pub mod compute;
+pub mod refuse;
+
+ghost use Prim.Native.Nat.{_≤_};
+ghost use mathlib.Core.Path.{_≡_};
+ghost use lib.ListN.{length};
+ghost use Rattle.buffer.specs.Bytes.{stored};
+ghost use Rattle.walk.specs.Walk.{segments, endsOf, recordsOf};
+ghost use Rattle.walk.specs.Refuse.{walkNumber};
+ghost use Rattle.walk.specs.Answers.{walkAnswer, bufferAfter};
+use answer::DONE;
+use answer::SHORT_BUFFER;
+pub use compute::WalkAnswer;
+use cube::Vector;
+use cube::compute::Uv;
+use record::Ends;
+
+// The segments of the line with this normal, from the point a of a face to the point b of the target:
+// a record of 40 bytes for each, from the first byte of out on. The points are copied as they are. A
+// target equal to the first face gives one record. The answer counts the records, 1 to 8; the bytes
+// after the last stay. 4 for a face or a target above 5, 2 for a float that is not finite, 5 for a
+// normal all zero, 6 where the line does not meet a face that is not the target, 7 where the target
+// is not among the first 8 faces, 8 where out has no room: then no byte is changed.
+pub fn walk(face: u8, a: Uv, target: u8, b: Uv, normal: Vector, out: &mut [u8]) -> WalkAnswer
+    ensures answer { λ r. ⌜ r ≡ walkAnswer (walkNumber (length (now (out .entry))) face a target b normal) (length (segments 8 normal face a target b)) ⌝ }
+    ensures bytes { λ _. ⌜ now (out .exit) ≡ bufferAfter (now (out .entry)) face a target b normal ⌝ }
+{
+    let number = refuse::input(face, a, target, b, normal);
+    if number != DONE {
+        return WalkAnswer { number, count: 0 };
+    }
+    let found = compute::survey(face, target, normal);
+    if found.number != DONE {
+        return found;
+    }
+    if out.len() / record::LENGTH < found.count {
+        return WalkAnswer {
+            number: SHORT_BUFFER,
+            count: 0,
+        };
+    }
+    put_segments(out, face, a, target, b, normal);
+    found
+}
+
+// ---- the records
+
+// The records of the walk's segments, one after the other from the first byte on, where they fit.
+fn put_segments(out: &mut [u8], face: u8, a: Uv, target: u8, b: Uv, normal: Vector)
+    requires { ⌜ length (recordsOf (segments 8 normal face a target b)) ≤ length (now out) ⌝ }
+    ensures { λ _. ⌜ now (out .exit) ≡ stored (now (out .entry)) 0 (recordsOf (segments 8 normal face a target b)) ⌝ }
+{
+    let mut at = face;
+    let mut begin = a;
+    let mut to: usize = 0;
+    let mut left: usize = 8;
+    while 0 < left {
+        if at == target {
+            record::put_record(out, to, at, 0, ends(begin, b));
+            return;
+        }
+        let end = compute::exit(at, normal);
+        record::put_record(out, to, at, 0, ends(begin, end));
+        let next = compute::onward(at, target, normal);
+        begin = compute::moved(at, end, next);
+        at = next;
+        to += record::LENGTH;
+        left -= 1;
+    }
+}
+
+fn ends(a: Uv, b: Uv) -> Ends
+    ensures { λ r. ⌜ r ≡ endsOf a b ⌝ }
+{
+    Ends {
+        au: a.u,
+        av: a.v,
+        bu: b.u,
+        bv: b.v,
+    }
+}
