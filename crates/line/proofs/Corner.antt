@@ -83,7 +83,7 @@ unfolding byAxis
 same-point U p q g h = ap (λ (x : Float). uv x (p .v)) g ∙ ap (λ (x : Float). uv (q .u) x) h
 same-point «V» p q g h = ap (λ (x : Float). uv x (p .v)) h ∙ ap (λ (x : Float). uv (q .u) x) g
 
-one-if-inj : (i j : Bool) → oneIf i ≡ oneIf j → i ≡ j
+pub one-if-inj : (i j : Bool) → oneIf i ≡ oneIf j → i ≡ j
 one-if-inj i j e = sym (above i) ∙ ap (λ (x : Float). lt zeroF x) e ∙ above j
   where
     above : (i : Bool) → lt zeroF (oneIf i) ≡ i
@@ -95,7 +95,7 @@ one-if-inj i j e = sym (above i) ∙ ap (λ (x : Float). lt zeroF x) e ∙ above
 rest-is : (x y z : ℤ) → x +ℤ y ≡ negℤ z → negℤ x +ℤ negℤ z ≡ y
 rest-is x y z h = rw (← h) (sym (+ℤ-assoc (negℤ x) x y) ∙ ap (λ (w : ℤ). w +ℤ y) (+ℤ-invl x) ∙ +ℤ-idl y)
 
-factor-is-signed : (plus : Bool) (s : Bool) (n : ℕ) → wholeIf plus *ℤ signed s n ≡ signed (unlike (not plus) s) n
+pub factor-is-signed : (plus : Bool) (s : Bool) (n : ℕ) → wholeIf plus *ℤ signed s n ≡ signed (unlike (not plus) s) n
 factor-is-signed plus s n = rw (whole-if plus) (signed-one (not plus) s n)
 
 turned-factor : (plus : Bool) (s : Bool) (n : ℕ) → negℤ (wholeIf plus *ℤ signed s n) ≡ signed (unlike plus s) n

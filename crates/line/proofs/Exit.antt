@@ -59,7 +59,7 @@ module _ (n : Vector) (met : size (n .z) ≤ size (n .x) + size (n .y)) where
   gap-adjacent U h k = record { some = omega arith; along-least = omega arith; w-least = omega arith; across = inr k }
   gap-adjacent «V» h k = record { some = omega arith; along-least = omega arith; w-least = omega arith; across = inr k }
 
-axis-v : (b : Bool) (a : Axis) → axisOf b ≡ a → b ≡ isV a
+pub axis-v : (b : Bool) (a : Axis) → axisOf b ≡ a → b ≡ isV a
 axis-v b a e = is-v b ∙ ap isV e
   where
     is-v : (b : Bool) → b ≡ isV (axisOf b)

@@ -80,12 +80,13 @@ unfolding byAxis
 parts n U = refl
 parts n «V» = omega arith
 
-axis-le : (a : Axis) → axisNumber a ≤ 2
+-- an axis of a face is u or v
+pub axis-le : (a : Axis) → axisNumber a ≤ 1
 unfolding byAxis
 axis-le U = omega arith
 axis-le «V» = omega arith
 
-direction-le : (c : Float) → directionOf c ≤ 1
+pub direction-le : (c : Float) → directionOf c ≤ 1
 unfolding directionOf
 direction-le c = cases (λ (d : ℕ). d ≤ 1) (lt zeroF c) 1 0 (λ e. omega arith) (λ e. omega arith)
 
@@ -99,7 +100,7 @@ module _ {p : Vector} (v : Finite p) (f : ℕ) (F : f ≤ 5) where
   enters-over a plus e h =
       let q = leftAt p f in
       let g = neighbourOver f a q in
-      let o = promises .neighbours f (axisNumber a) (directionOf (coordinate a q)) F (axis-le a) (direction-le (coordinate a q)) in
+      let o = promises .neighbours f (axisNumber a) (directionOf (coordinate a q)) F (omega (arith, axis-le a)) (direction-le (coordinate a q)) in
       let w : size (uvwOf g p .z) ≡ size (along a (uvwOf f p)) = ap size (o .over p) ∙ toward-size (uvwOf f p) a (directionOf (coordinate a q)) in
       record {
         face = o .face;

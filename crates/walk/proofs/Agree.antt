@@ -7,16 +7,13 @@ use native.Mathlib.Nat.{pos-of-ne-zero}
 use native.Mathlib.Omega.{arith}
 use lib.Dec.{leb, eqb}
 use borrow.Author.Tests.{le-leb, lt-leb, eq-eqb, eqb-true, eqb-false}
-use lib.IntN.{_*ℤ_}
 use lib.Ieee.{Float, unlike, lt, neg, ofBits}
 use Rattle.float.specs.Choice.{when_then_else_}
-use Rattle.float.specs.Float.{zeroF, signBit}
-use Rattle.float.specs.Exact.{signed}
+use Rattle.float.specs.Float.{signBit}
 use Rattle.float.proofs.Choice.{same, split}
 use Rattle.float.proofs.Whole.{le-or-lt}
 use Rattle.float.proofs.Plain.{plain, le-units}
 use Rattle.float.proofs.Signed.{turned}
-use Rattle.float.proofs.Unit.{signed-one}
 use Rattle.float.proofs.Zero.{lt-nought, nought-lt}
 use Rattle.cube.specs.Vector.{isZero}
 use Rattle.cube.specs.Faces.{neighbour}
@@ -24,11 +21,11 @@ use Rattle.cube.specs.declared.vector.Vector.{Vector}
 use Rattle.cube.proofs.Six.{both}
 use Rattle.line.specs.declared.compute.Axis.{Axis}
 use Rattle.line.specs.declared.compute.Axis.the-variants.{U, «V»}
-use Rattle.line.specs.Line.{byAxis, meetsFace, passesOppositeEdges, axisOf, evenSigns, exitAxis, oneIf, exitPoint, directionOf, atCorner, nextFace}
-use Rattle.line.specs.Promises.{size, Finite, apart, wholeIf, Through}
+use Rattle.line.specs.Line.{byAxis, meetsFace, passesOppositeEdges, evenSigns, exitAxis, oneIf, exitPoint, directionOf, atCorner, nextFace}
+use Rattle.line.specs.Promises.{size, Finite, apart, Through}
 use Rattle.line.proofs.Normal.{u-held, v-held, zero-is, opposite-is}
-use Rattle.line.proofs.Exit.{isV, leaves, exit-side}
-use Rattle.line.proofs.Corner.{exit-corner}
+use Rattle.line.proofs.Exit.{isV, leaves, exit-side, axis-v}
+use Rattle.line.proofs.Corner.{exit-corner, one-if-inj, factor-is-signed}
 use Rattle.walk.proofs.Kind.{Part, partOf, total, throughK, onVK, overU, overV, hit, stepK}
 use Rattle.walk.proofs.Balance.{to-test, of-test}
 
@@ -56,13 +53,6 @@ axis-is a b c m x e =
                 rw (p, q, s)
           ]
     ]
-
-axis-v : (b : Bool) (a : Axis) → axisOf b ≡ a → b ≡ isV a
-axis-v b a e = is-v b ∙ ap isV e
-  where
-    is-v : (b : Bool) → b ≡ isV (axisOf b)
-    is-v true = unfold byAxis axisOf when_then_else_ in refl
-    is-v false = unfold byAxis axisOf when_then_else_ in refl
 
 -- ---- a corner of the exit edge
 hit-is : (c : Bool) (t : ℕ) (through : Bool → Bool) (other : Bool → ℕ) → (c ≡ true → (j : Bool) × (through j ≡ true) × (other j ≡ t)) → ((j : Bool) → through j ≡ true → other j ≡ t → c ≡ true)
@@ -96,17 +86,6 @@ direction-is : (plus : Bool) → directionOf (oneIf plus) ≡ cond plus 1 0
 unfolding directionOf oneIf when_then_else_ lt neg ofBits
 direction-is true = refl
 direction-is false = refl
-
-one-if-inj : (i j : Bool) → oneIf i ≡ oneIf j → i ≡ j
-one-if-inj i j e = sym (above i) ∙ ap (λ (x : Float). lt zeroF x) e ∙ above j
-  where
-    above : (i : Bool) → lt zeroF (oneIf i) ≡ i
-    above true = unfold oneIf when_then_else_ neg lt ofBits in refl
-    above false = unfold oneIf when_then_else_ neg lt ofBits in refl
-
-factor-is-signed : (plus s : Bool) (n : ℕ) → wholeIf plus *ℤ signed s n ≡ signed (unlike (not plus) s) n
-factor-is-signed true s n = signed-one false s n
-factor-is-signed false s n = signed-one true s n
 
 module _ {n : Vector} (v : Finite n) (nz : isZero n ≡ false) (met : meetsFace n ≡ true) (m : ℕ) (e : m ≡ total n) where
   abbrev pub u-part : Part

@@ -5,9 +5,9 @@ use mathlib.Core.Path.{_≡_, refl, ap, _∙_}
 use mathlib.Core.Bool.{Bool, true, false, _&&_, _||_, false≢true}
 use lib.Dec.{leb, eqb}
 use borrow.Author.Tests.{leb-true}
-use lib.Ieee.{Float, lt}
+use lib.Ieee.{Float}
 use Rattle.float.specs.Choice.{when_then_else_}
-use Rattle.float.specs.Float.{zeroF, oneF}
+use Rattle.float.specs.Float.{oneF}
 use Rattle.float.proofs.Choice.{cases}
 use Rattle.cube.specs.Vector.{vec, isZero}
 use Rattle.cube.specs.Faces as Faces
@@ -21,21 +21,12 @@ use Rattle.line.specs.declared.compute.Axis.{Axis}
 use Rattle.line.specs.declared.compute.Axis.the-variants.{U, «V»}
 use Rattle.line.specs.Line.{byAxis, exitAxis, oneIf, otherAxis, coordinate, axisNumber, directionOf, neighbourOver, atCorner, nextFace, leftAt, onward}
 use Rattle.line.specs.Promises.{Finite, cornerAt}
-use Rattle.line.proofs.Next.{finite-in, not-zero-in}
+use Rattle.line.proofs.Next.{finite-in, not-zero-in, axis-le, direction-le}
 use Rattle.line.proofs.Promises as line
 use Rattle.walk.specs.Walk.{met, movedTo}
 use Rattle.walk.specs.Promises.{OneOn}
 
 -- ---- the next face
-pub axis-le : (a : Axis) → axisNumber a ≤ 1
-unfolding byAxis
-axis-le U = omega arith
-axis-le «V» = omega arith
-
-pub direction-le : (c : Float) → directionOf c ≤ 1
-unfolding directionOf
-direction-le c = cases (λ (d : ℕ). d ≤ 1) (lt zeroF c) 1 0 (λ e. omega arith) (λ e. omega arith)
-
 -- g is the neighbour of f over u or v, in some direction
 pub record Beside (f g : ℕ) : Type 0 where
   pub axis : ℕ
