@@ -1,0 +1,4 @@
+-- Laws that the proofs of this crate cite.
+pub mod Cases
+pub mod Run
+pub mod Spaced

@@ -1,0 +1,35 @@
+-- `of_points` is `pointsReply`.
+use Rattle.answers.specs.Reply.{pointsReply}
+use borrow.Author.Needs.{needs}
+use Rattle.answers.proofs.reply.of_points.Statement.{statement}
+use Rattle.answers.proofs.reply.of_points.Tie as tie
+
+to-bits-requires : tie.Need-to-bits-requires
+to-bits-requires c κs = search needs
+
+to-bits-requires-2 : tie.Need-to-bits-requires-2
+to-bits-requires-2 c κs = search needs
+
+to-bits-requires-3 : tie.Need-to-bits-requires-3
+to-bits-requires-3 c κs = search needs
+
+to-bits-requires-4 : tie.Need-to-bits-requires-4
+to-bits-requires-4 c κs = search needs
+
+new-requires : tie.Need-new-requires
+new-requires c κs = search needs
+
+returns : tie.Need-returns
+unfolding pointsReply
+returns c = cc
+
+pub of-points-spec : {M : Type 1} → statement M
+of-points-spec =
+    tie.close
+    (tie.spec
+    to-bits-requires
+    to-bits-requires-2
+    to-bits-requires-3
+    to-bits-requires-4
+    new-requires
+    returns)

@@ -1,0 +1,35 @@
+-- `of_rect` is `rectReply`.
+use Rattle.answers.specs.Reply.{rectReply}
+use borrow.Author.Needs.{needs}
+use Rattle.answers.proofs.reply.of_rect.Statement.{statement}
+use Rattle.answers.proofs.reply.of_rect.Tie as tie
+
+to-bits-requires : tie.Need-to-bits-requires
+to-bits-requires c κs = search needs
+
+to-bits-requires-2 : tie.Need-to-bits-requires-2
+to-bits-requires-2 c κs = search needs
+
+to-bits-requires-3 : tie.Need-to-bits-requires-3
+to-bits-requires-3 c κs = search needs
+
+to-bits-requires-4 : tie.Need-to-bits-requires-4
+to-bits-requires-4 c κs = search needs
+
+new-requires : tie.Need-new-requires
+new-requires c κs = search needs
+
+returns : tie.Need-returns
+unfolding rectReply
+returns c = cc
+
+pub of-rect-spec : {M : Type 1} → statement M
+of-rect-spec =
+    tie.close
+    (tie.spec
+    to-bits-requires
+    to-bits-requires-2
+    to-bits-requires-3
+    to-bits-requires-4
+    new-requires
+    returns)

@@ -1,0 +1,26 @@
+-- `of_vector` is `vectorReply`.
+use Rattle.answers.specs.Reply.{vectorReply}
+use borrow.Author.Needs.{needs}
+use Rattle.answers.proofs.reply.of_vector.Statement.{statement}
+use Rattle.answers.proofs.reply.of_vector.Tie as tie
+
+to-bits-requires : tie.Need-to-bits-requires
+to-bits-requires c κs = search needs
+
+to-bits-requires-2 : tie.Need-to-bits-requires-2
+to-bits-requires-2 c κs = search needs
+
+to-bits-requires-3 : tie.Need-to-bits-requires-3
+to-bits-requires-3 c κs = search needs
+
+new-requires : tie.Need-new-requires
+new-requires c κs = search needs
+
+returns : tie.Need-returns
+unfolding vectorReply
+returns c = cc
+
+pub of-vector-spec : {M : Type 1} → statement M
+of-vector-spec =
+    tie.close
+    (tie.spec to-bits-requires to-bits-requires-2 to-bits-requires-3 new-requires returns)

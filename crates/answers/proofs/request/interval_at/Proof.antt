@@ -1,0 +1,21 @@
+-- `interval_at` is `intervalAt`.
+use Rattle.answers.specs.Request.{intervalAt}
+use borrow.Author.Needs.{needs}
+use Rattle.answers.proofs.request.interval_at.Statement.{statement}
+use Rattle.answers.proofs.request.interval_at.Tie as tie
+
+float-at-requires : tie.Need-float-at-requires
+float-at-requires c κs = search needs
+
+add-float-at : tie.Need-add-float-at
+add-float-at c = search needs
+
+float-at-requires-2 : tie.Need-float-at-requires-2
+float-at-requires-2 c κs = search needs
+
+returns : tie.Need-returns
+unfolding intervalAt
+returns c = cc
+
+pub interval-at-spec : {M : Type 1} → statement M
+interval-at-spec = tie.close (tie.spec float-at-requires add-float-at float-at-requires-2 returns)

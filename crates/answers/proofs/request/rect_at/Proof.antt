@@ -1,0 +1,21 @@
+-- `rect_at` is `rectAt`.
+use Rattle.answers.specs.Request.{rectAt}
+use borrow.Author.Needs.{needs}
+use Rattle.answers.proofs.request.rect_at.Statement.{statement}
+use Rattle.answers.proofs.request.rect_at.Tie as tie
+
+point-at-requires : tie.Need-point-at-requires
+point-at-requires c κs = search needs
+
+add-point-at : tie.Need-add-point-at
+add-point-at c = search needs
+
+point-at-requires-2 : tie.Need-point-at-requires-2
+point-at-requires-2 c κs = search needs
+
+returns : tie.Need-returns
+unfolding rectAt
+returns c = cc
+
+pub rect-at-spec : {M : Type 1} → statement M
+rect-at-spec = tie.close (tie.spec point-at-requires add-point-at point-at-requires-2 returns)

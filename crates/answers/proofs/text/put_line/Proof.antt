@@ -1,0 +1,46 @@
+-- `put_line` stores the line of a request: 60 has its own.
+use native.Mathlib.Omega.{arith}
+use Rattle.answers.proofs.Run.{line-walk, line-reply}
+use Rattle.answers.proofs.Spaced.{same-line}
+use borrow.Author.Needs.{needs}
+use Rattle.answers.proofs.text.put_line.Statement.{statement}
+use Rattle.answers.proofs.text.put_line.Tie as tie
+
+word-requires : tie.Need-word-requires
+word-requires c κs = search needs
+
+put-walk-requires : tie.Need-put-walk-requires
+put-walk-requires c κs = omega arith
+
+same-length : tie.Need-same-length
+same-length c = search needs
+
+returns : tie.Need-returns
+returns c = same-line _ _ _ _ _ _ (line-walk _ _ (c .before .before .before .before .before .word .ensures) (c .before .before .before .before .if1 .taken)) (c .before .before .put-walk .ensures)
+
+reply-of-requires : tie.Need-reply-of-requires
+reply-of-requires c κs = search needs
+
+put-reply-requires : tie.Need-put-reply-requires
+put-reply-requires c κs = omega arith
+
+same-length-2 : tie.Need-same-length-2
+same-length-2 c = search needs
+
+returns-2 : tie.Need-returns-2
+returns-2 c =
+    let r = c .before .before .put-reply .ensures in
+    same-line _ _ _ _ _ _ (line-reply _ _ _ (c .before .before .before .before .before .before .word .ensures) (c .before .before .before .before .before .if1 .left) (c .before .before .before .reply-of .ensures)) (r .0, r .1, omega (arith, r .2))
+
+pub put-line-spec : {M : Type 1} → statement M
+put-line-spec =
+    tie.close
+    (tie.spec
+    word-requires
+    put-walk-requires
+    same-length
+    returns
+    reply-of-requires
+    put-reply-requires
+    same-length-2
+    returns-2)

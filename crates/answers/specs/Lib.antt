@@ -1,0 +1,7 @@
+-- The answering program: requests, the operations, their lines.
+pub mod Request
+pub mod Reply
+pub mod Table
+pub mod Number
+pub mod Walked
+pub mod Line

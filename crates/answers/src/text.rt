@@ -1,0 +1,86 @@
+// The lines of requests.
+ghost use mathlib.Core.Path.{_≡_};
+ghost use Prim.Native.Nat.{_+_, _*_, _≤_};
+ghost use lib.Dec.{leb};
+ghost use lib.ListN.{length};
+ghost use Rattle.float.specs.Choice.{when_then_else_};
+ghost use Rattle.buffer.specs.Bytes.{stored};
+ghost use Rattle.answers.specs.Line.{groupsFrom, atMostEight, replyLine, lineOf, textOf, room};
+use crate::number;
+use crate::reply::Reply;
+use crate::request;
+use crate::table;
+use crate::walked;
+
+// The text of the requests in s: a line for each, and one more for a torn end. Gives its length, or 0
+// with out as it was where out has no room: 822 bytes for each request, and 2.
+pub fn put_text(s: &[u8], out: &mut [u8]) -> usize
+    ensures count { λ r. ⌜ r ≡ (when leb (room (now (s .entry))) (length (now (out .entry))) then length (textOf (now (s .entry))) else 0) ⌝ }
+    ensures bytes { λ _. ⌜ now (out .exit) ≡ (when leb (room (now (s .entry))) (length (now (out .entry))) then stored (now (out .entry)) 0 (textOf (now (s .entry))) else now (out .entry)) ⌝ }
+    ensures within { λ r. ⌜ r ≤ length (now (out .exit)) ⌝ }
+{
+    let n = s.len() / 192;
+    if out.len() < 2 {
+        return 0;
+    }
+    if (out.len() - 2) / 822 < n {
+        return 0;
+    }
+    let mut i: usize = 0;
+    let mut to: usize = 0;
+    while i < n {
+        to = put_line(out, to, &s[i * 192..i * 192 + 192]);
+        i += 1;
+    }
+    if s.len() % 192 == 0 {
+        return to;
+    }
+    out[to] = b'9';
+    out[to + 1] = b'\n';
+    to + 2
+}
+
+// The line of one request; the place after it.
+fn put_line(out: &mut [u8], to: usize, s: &[u8]) -> usize
+    requires { ⌜ to + 822 ≤ length (now out) ⌝ }
+    ensures { λ r. ⌜ (r ≡ to + length (lineOf (now (s .entry)))) × (now (out .exit) ≡ stored (now (out .entry)) to (lineOf (now (s .entry)))) × (r ≤ to + 822) ⌝ }
+{
+    if request::word(s, 0) == 60 {
+        return walked::put_walk(out, to, s);
+    }
+    put_reply(out, to, table::reply_of(s))
+}
+
+// The line of a reply; the place after it.
+fn put_reply(out: &mut [u8], to: usize, r: Reply) -> usize
+    requires { ⌜ to + 140 ≤ length (now out) ⌝ }
+    ensures { λ n. ⌜ (n ≡ to + length (replyLine r)) × (now (out .exit) ≡ stored (now (out .entry)) to (replyLine r)) × (n ≤ to + 140) ⌝ }
+{
+    let words = r.words;
+    let count = at_most_eight(r.count);
+    let next = number::put_number(out, to, r.number);
+    put_groups(out, next, words, count);
+    out[next + 17 * count] = b'\n';
+    next + 17 * count + 1
+}
+
+fn at_most_eight(n: usize) -> usize
+    ensures { λ r. ⌜ (r ≡ atMostEight n) × (r ≤ 8) ⌝ }
+{
+    if n <= 8 {
+        return n;
+    }
+    8
+}
+
+// The groups of the first n words.
+fn put_groups(out: &mut [u8], to: usize, words: [u64; 8], n: usize)
+    requires { ⌜ (n ≤ 8) × (to + 17 * n ≤ length (now out)) ⌝ }
+    ensures { λ _. ⌜ now (out .exit) ≡ stored (now (out .entry)) to (groupsFrom words 0 n) ⌝ }
+{
+    let mut i: usize = 0;
+    while i < n {
+        buffer::put_group(out, to + 17 * i, words[i]);
+        i += 1;
+    }
+}
