@@ -11,7 +11,6 @@ enum-known-moved c = search needs
 answer-requires : tie.Need-answer-requires
 answer-requires c κs = search needs
 
--- /work/main/target/rlib/plane.rlib/interface/lang/src/interval.rt:12:30
 enum-told : tie.Need-enum-told
 enum-told c = search needs
 
