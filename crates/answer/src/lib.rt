@@ -25,12 +25,14 @@ pub const SHORT_BUFFER: u8 = 8;
 pub const TORN: u8 = 9;
 
 // A float beside the number 0, or zero beside another.
+#[repr(C)]
 pub struct Real {
     pub number: u8,
     pub value: f64,
 }
 
 // Yes or no beside the number 0, or no beside another.
+#[repr(C)]
 pub struct YesNo {
     pub number: u8,
     pub yes: bool,

@@ -3,7 +3,9 @@ use Prim.Native.Nat.{ℕ}
 use mathlib.Core.Bool.{Bool, not}
 use lib.Ieee.{Float, lt}
 use Rattle.float.specs.Float.{zeroF}
-use Rattle.answer.specs.Answer.{done, missed, beside}
+use Rattle.answer.specs.Answer.{done, missed, beside, realAnswer, yesNoAnswer}
+use Rattle.answer.specs.declared.Real.{Real}
+use Rattle.answer.specs.declared.YesNo.{YesNo}
 use Rattle.plane.specs.Interval.{endOf}
 use Rattle.plane.specs.Rect.{boxOf}
 use Rattle.plane.specs.Answers.{zeroInterval, zeroRect, intervalAnswer, rectAnswer}
@@ -22,8 +24,8 @@ use Rattle.clip.specs.declared.Segment.{Segment}
 use Rattle.clip.specs.declared.Clipped.{Clipped}
 use Rattle.clip.specs.declared.Clipped.the-variants.{Kept, Missed, Refused}
 use Rattle.clip.specs.declared.AxesAnswer.{AxesAnswer}
-use Rattle.clip.specs.Cut.{movedEnd, axisCut, boxCut}
-use Rattle.clip.specs.Refuse.{endRefusal, axisRefusal, boundRefusal, edgeRefusal}
+use Rattle.clip.specs.Cut.{valueAt, movedEnd, axisCut, boxCut, edgeMeets}
+use Rattle.clip.specs.Refuse.{valueRefusal, endRefusal, axisRefusal, boundRefusal, edgeRefusal}
 
 -- ---- clip_edge
 
@@ -90,3 +92,11 @@ unfoldable pub endOrRefusal : Interval → Bool → Float → IntervalAnswer
 endOrRefusal bound high v =
     let n = endRefusal bound v in
     beside n (endAnswer (movedEnd bound high v)) (intervalAnswer n zeroInterval)
+
+-- ---- edge_intersects_rect, interpolate
+
+abbrev pub meetsOrRefusal : Point → Point → Rect → YesNo
+meetsOrRefusal a b window = yesNoAnswer (edgeRefusal a b window) (edgeMeets a b window)
+
+abbrev pub valueOrRefusal : Float → Float → Float → Float → Float → Real
+valueOrRefusal x a b a1 b1 = realAnswer (valueRefusal x a b a1 b1) (valueAt x a b a1 b1)

@@ -12,6 +12,7 @@ pub enum Moved {
 }
 
 // The bounds of an axis and of the other.
+#[repr(C)]
 pub struct Both {
     pub this: Interval,
     pub other: Interval,

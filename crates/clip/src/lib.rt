@@ -6,10 +6,7 @@ pub mod compute;
 pub mod refuse;
 
 ghost use mathlib.Core.Path.{_≡_};
-ghost use Rattle.answer.specs.Answer.{realAnswer, yesNoAnswer};
-ghost use Rattle.clip.specs.Cut.{valueAt, edgeMeets};
-ghost use Rattle.clip.specs.Refuse.{valueRefusal, edgeRefusal};
-ghost use Rattle.clip.specs.Answers.{ends, endAnswer, axesAnswer, axisAnswer, boundAnswer, edgeAnswer, clipped, endOrRefusal, axisOrRefusal, boundOrRefusal};
+ghost use Rattle.clip.specs.Answers.{ends, endAnswer, axesAnswer, axisAnswer, boundAnswer, edgeAnswer, clipped, endOrRefusal, axisOrRefusal, boundOrRefusal, meetsOrRefusal, valueOrRefusal};
 use answer::DONE;
 use answer::MISSED;
 use answer::Real;
@@ -40,6 +37,7 @@ pub enum Clipped {
 }
 
 // Two axes beside 0, or 0..0 on both beside another number.
+#[repr(C)]
 pub struct AxesAnswer {
     pub number: u8,
     pub both: Both,
@@ -59,7 +57,7 @@ pub fn clip_edge(a: Point, b: Point, window: Rect) -> Clipped
 
 // Whether the edge from a to b meets the window.
 pub fn edge_intersects_rect(a: Point, b: Point, window: Rect) -> YesNo
-    ensures { λ r. ⌜ r ≡ yesNoAnswer (edgeRefusal a b window) (edgeMeets a b window) ⌝ }
+    ensures { λ r. ⌜ r ≡ meetsOrRefusal a b window ⌝ }
 {
     YesNo::answer(
         refuse::edge(a, b, window),
@@ -111,7 +109,7 @@ pub fn update_endpoint(bound: Interval, high_endpoint: bool, value: f64) -> Inte
 
 // The value at x on the line through (a, a1) and (b, b1).
 pub fn interpolate(x: f64, a: f64, b: f64, a1: f64, b1: f64) -> Real
-    ensures { λ r. ⌜ r ≡ realAnswer (valueRefusal x a b a1 b1) (valueAt x a b a1 b1) ⌝ }
+    ensures { λ r. ⌜ r ≡ valueOrRefusal x a b a1 b1 ⌝ }
 {
     Real::answer(
         refuse::value(x, a, b, a1, b1),

@@ -3,4 +3,5 @@ pub mod Vector
 pub mod Faces
 pub mod Refuse
 pub mod Answers
+pub mod Entries
 pub mod Promises

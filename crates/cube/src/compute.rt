@@ -5,6 +5,7 @@ ghost use Rattle.cube.specs.Faces.{along, greater, faceOf, uvOf, pointAt
 use crate::vector::Vector;
 
 // A point of a face.
+#[repr(C)]
 pub struct Uv {
     pub u: f64,
     pub v: f64,

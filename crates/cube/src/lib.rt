@@ -9,24 +9,21 @@ pub mod refuse;
 pub mod vector;
 
 ghost use mathlib.Core.Path.{_≡_};
-ghost use mathlib.Core.Bool.{true};
-ghost use Rattle.float.specs.Choice.{_and_};
-ghost use Rattle.float.specs.Float.{finite};
-ghost use Rattle.cube.specs.Vector.{finiteVector};
-ghost use Rattle.cube.specs.Faces.{faceOf, uvOf, pointAt, uvwOf, neighbour, uAxis, vAxis, uNorm, vNorm};
-ghost use Rattle.cube.specs.Refuse.{vectorRefusal, faceRefusal, sideRefusal, neighbourRefusal};
 ghost use Rattle.cube.specs.Answers.{faceAnswer, faceUvAnswer, uvAnswer, vectorAnswer};
+ghost use Rattle.cube.specs.Entries.{faceOrRefusal, faceUvOrRefusal, uvOrRefusal, xyzOrRefusal, uvwOrRefusal, neighbourOrRefusal, uAxisOrRefusal, vAxisOrRefusal, uNormOrRefusal, vNormOrRefusal};
 use answer::DONE;
 use compute::Uv;
 pub use vector::Vector;
 
 // A face beside 0, or face 0 beside a refusal.
+#[repr(C)]
 pub struct FaceAnswer {
     pub number: u8,
     pub face: u8,
 }
 
 // A face and (u, v) on it beside 0, or face 0 and zeros beside a refusal.
+#[repr(C)]
 pub struct FaceUv {
     pub number: u8,
     pub face: u8,
@@ -35,6 +32,7 @@ pub struct FaceUv {
 }
 
 // (u, v) beside 0, or zeros beside a refusal.
+#[repr(C)]
 pub struct UvAnswer {
     pub number: u8,
     pub u: f64,
@@ -42,6 +40,7 @@ pub struct UvAnswer {
 }
 
 // A vector beside 0, or the zero vector beside a refusal.
+#[repr(C)]
 pub struct VectorAnswer {
     pub number: u8,
     pub vector: Vector,
@@ -50,14 +49,14 @@ pub struct VectorAnswer {
 // The face that r points at: the axis of its greatest absolute coordinate, the lower where two tie,
 // and 3 more when that coordinate is negative. 2 where r is not finite, 5 where it is all zero.
 pub fn face(r: Vector) -> FaceAnswer
-    ensures { λ a. ⌜ a ≡ faceAnswer (vectorRefusal r) (faceOf r) ⌝ }
+    ensures { λ a. ⌜ a ≡ faceOrRefusal r ⌝ }
 {
     FaceAnswer::answer(refuse::vector(r), compute::face(r))
 }
 
 // The face that r points at, and its (u, v) there, both from -1 to 1. Refused as in `face`.
 pub fn xyz_to_face_uv(r: Vector) -> FaceUv
-    ensures { λ a. ⌜ a ≡ faceUvAnswer (vectorRefusal r) (faceOf r) (uvOf (faceOf r) r) ⌝ }
+    ensures { λ a. ⌜ a ≡ faceUvOrRefusal r ⌝ }
 {
     let face = compute::face(r);
     FaceUv::answer(
@@ -70,7 +69,7 @@ pub fn xyz_to_face_uv(r: Vector) -> FaceUv
 // (u, v) of r on a face. 4 for a face above 5, 2 where r is not finite, 1 where r is not on the
 // side of the face, also where it is all zero.
 pub fn face_xyz_to_uv(face: u8, r: Vector) -> UvAnswer
-    ensures { λ a. ⌜ a ≡ uvAnswer (sideRefusal face r) (uvOf face r) ⌝ }
+    ensures { λ a. ⌜ a ≡ uvOrRefusal face r ⌝ }
 {
     UvAnswer::answer(
         refuse::side(face, r),
@@ -80,7 +79,7 @@ pub fn face_xyz_to_uv(face: u8, r: Vector) -> UvAnswer
 
 // The point at (u, v) of a face. 4 for a face above 5, 2 where u or v is not finite.
 pub fn face_uv_to_xyz(face: u8, u: f64, v: f64) -> VectorAnswer
-    ensures { λ a. ⌜ a ≡ vectorAnswer (faceRefusal face (finite u and finite v)) (pointAt face u v) ⌝ }
+    ensures { λ a. ⌜ a ≡ xyzOrRefusal face u v ⌝ }
 {
     VectorAnswer::answer(
         refuse::face(face, refuse::both_finite(u, v)),
@@ -90,7 +89,7 @@ pub fn face_uv_to_xyz(face: u8, u: f64, v: f64) -> VectorAnswer
 
 // r in the face's u, v and w, as x, y and z. 4 for a face above 5, 2 where r is not finite.
 pub fn face_xyz_to_uvw(face: u8, r: Vector) -> VectorAnswer
-    ensures { λ a. ⌜ a ≡ vectorAnswer (faceRefusal face (finiteVector r)) (uvwOf face r) ⌝ }
+    ensures { λ a. ⌜ a ≡ uvwOrRefusal face r ⌝ }
 {
     VectorAnswer::answer(
         refuse::face(face, r.is_finite()),
@@ -102,7 +101,7 @@ pub fn face_xyz_to_uvw(face: u8, r: Vector) -> VectorAnswer
 // for plus: the face whose own w points there. 4 for a face above 5, an axis above 2 or a direction
 // above 1.
 pub fn uvw_face(face: u8, axis: u8, direction: u8) -> FaceAnswer
-    ensures { λ a. ⌜ a ≡ faceAnswer (neighbourRefusal face axis direction) (neighbour face axis direction) ⌝ }
+    ensures { λ a. ⌜ a ≡ neighbourOrRefusal face axis direction ⌝ }
 {
     FaceAnswer::answer(
         refuse::neighbour(face, axis, direction),
@@ -112,14 +111,14 @@ pub fn uvw_face(face: u8, axis: u8, direction: u8) -> FaceAnswer
 
 // The unit vector along the u of a face. 4 for a face above 5.
 pub fn u_axis(face: u8) -> VectorAnswer
-    ensures { λ a. ⌜ a ≡ vectorAnswer (faceRefusal face true) (uAxis face) ⌝ }
+    ensures { λ a. ⌜ a ≡ uAxisOrRefusal face ⌝ }
 {
     VectorAnswer::answer(refuse::face(face, true), compute::u_axis(face))
 }
 
 // The unit vector along the v of a face. 4 for a face above 5.
 pub fn v_axis(face: u8) -> VectorAnswer
-    ensures { λ a. ⌜ a ≡ vectorAnswer (faceRefusal face true) (vAxis face) ⌝ }
+    ensures { λ a. ⌜ a ≡ vAxisOrRefusal face ⌝ }
 {
     VectorAnswer::answer(refuse::face(face, true), compute::v_axis(face))
 }
@@ -127,7 +126,7 @@ pub fn v_axis(face: u8) -> VectorAnswer
 // A normal of the plane through the cube's centre and the line of a face at this u. 4 for a face
 // above 5, 2 where u is not finite.
 pub fn unorm(face: u8, u: f64) -> VectorAnswer
-    ensures { λ a. ⌜ a ≡ vectorAnswer (faceRefusal face (finite u)) (uNorm face u) ⌝ }
+    ensures { λ a. ⌜ a ≡ uNormOrRefusal face u ⌝ }
 {
     VectorAnswer::answer(
         refuse::face(face, float::is_finite(u)),
@@ -137,7 +136,7 @@ pub fn unorm(face: u8, u: f64) -> VectorAnswer
 
 // The same of the line at this v.
 pub fn vnorm(face: u8, v: f64) -> VectorAnswer
-    ensures { λ a. ⌜ a ≡ vectorAnswer (faceRefusal face (finite v)) (vNorm face v) ⌝ }
+    ensures { λ a. ⌜ a ≡ vNormOrRefusal face v ⌝ }
 {
     VectorAnswer::answer(
         refuse::face(face, float::is_finite(v)),

@@ -3,6 +3,7 @@ ghost use mathlib.Core.Path.{_≡_};
 ghost use Rattle.cube.specs.Vector.{vec, finiteVector, isZero};
 use answer::both;
 
+#[repr(C)]
 pub struct Vector {
     pub x: f64,
     pub y: f64,

@@ -2,4 +2,5 @@
 pub mod Line
 pub mod Refuse
 pub mod Answers
+pub mod Entries
 pub mod Promises

@@ -64,7 +64,7 @@ pub fn exit_axis(n: Vector) -> Axis
     axis_of(even_signs(n))
 }
 
-fn axis_of(v: bool) -> Axis
+pub fn axis_of(v: bool) -> Axis
     ensures { λ r. ⌜ r ≡ axisOf v ⌝ }
 {
     if v { Axis::V } else { Axis::U }
@@ -173,7 +173,7 @@ fn coordinate(axis: Axis, p: Uv) -> f64
     }
 }
 
-fn axis_number(axis: Axis) -> u8
+pub fn axis_number(axis: Axis) -> u8
     ensures { λ r. ⌜ r ≡ axisNumber axis ⌝ }
 {
     match axis {

@@ -8,13 +8,8 @@ pub mod compute;
 pub mod refuse;
 
 ghost use mathlib.Core.Path.{_≡_};
-ghost use Rattle.answer.specs.Answer.{yesNoAnswer};
-ghost use Rattle.cube.specs.Vector.{vec};
-ghost use Rattle.cube.specs.Refuse.{vectorRefusal};
-ghost use Rattle.cube.specs.Answers.{uvAnswer, faceAnswer};
-ghost use Rattle.line.specs.Line.{sumEqual, meetsFace, passesOppositeEdges, exitAxis, exitPoint, nextFace};
-ghost use Rattle.line.specs.Refuse.{lineRefusal, exitRefusal, nextRefusal};
 ghost use Rattle.line.specs.Answers.{axisAnswer};
+ghost use Rattle.line.specs.Entries.{sumEqualOrRefusal, meetsFaceOrRefusal, oppositeEdgesOrRefusal, exitAxisOrRefusal, exitPointOrRefusal, nextFaceOrRefusal};
 use answer::DONE;
 use answer::YesNo;
 pub use compute::Axis;
@@ -31,7 +26,7 @@ pub struct AxisAnswer {
 
 // Whether u + v = w, exactly. 2 where one is not finite.
 pub fn sum_equal(u: f64, v: f64, w: f64) -> YesNo
-    ensures { λ r. ⌜ r ≡ yesNoAnswer (lineRefusal (vec u v w)) (sumEqual u v w) ⌝ }
+    ensures { λ r. ⌜ r ≡ sumEqualOrRefusal u v w ⌝ }
 {
     YesNo::answer(
         refuse::line(Vector { x: u, y: v, z: w }),
@@ -42,7 +37,7 @@ pub fn sum_equal(u: f64, v: f64, w: f64) -> YesNo
 // Whether the line meets the face: exactly when |nu| + |nv| >= |nw|, so yes for the zero normal. 2
 // where n is not finite.
 pub fn intersects_face(n: Vector) -> YesNo
-    ensures { λ r. ⌜ r ≡ yesNoAnswer (lineRefusal n) (meetsFace n) ⌝ }
+    ensures { λ r. ⌜ r ≡ meetsFaceOrRefusal n ⌝ }
 {
     YesNo::answer(refuse::line(n), compute::intersects_face(n))
 }
@@ -50,14 +45,14 @@ pub fn intersects_face(n: Vector) -> YesNo
 // Whether the line passes opposite edges of the face: exactly when ||nu| - |nv|| >= |nw|, so yes for
 // the zero normal. 2 where n is not finite.
 pub fn intersects_opposite_edges(n: Vector) -> YesNo
-    ensures { λ r. ⌜ r ≡ yesNoAnswer (lineRefusal n) (passesOppositeEdges n) ⌝ }
+    ensures { λ r. ⌜ r ≡ oppositeEdgesOrRefusal n ⌝ }
 {
     YesNo::answer(refuse::line(n), compute::intersects_opposite_edges(n))
 }
 
 // The axis over which the line leaves the face. 2 where n is not finite, 5 where it is all zero.
 pub fn exit_axis(n: Vector) -> AxisAnswer
-    ensures { λ r. ⌜ r ≡ axisAnswer (vectorRefusal n) (exitAxis n) ⌝ }
+    ensures { λ r. ⌜ r ≡ exitAxisOrRefusal n ⌝ }
 {
     AxisAnswer::answer(cube::refuse::vector(n), compute::exit_axis(n))
 }
@@ -65,7 +60,7 @@ pub fn exit_axis(n: Vector) -> AxisAnswer
 // Where the line leaves the face over an axis: on the exit axis of a line that meets the face, a
 // point of an edge. 2 where n is not finite, 5 where it is divided by zero.
 pub fn exit_point(n: Vector, axis: Axis) -> UvAnswer
-    ensures { λ r. ⌜ r ≡ uvAnswer (exitRefusal n axis) (exitPoint n axis) ⌝ }
+    ensures { λ r. ⌜ r ≡ exitPointOrRefusal n axis ⌝ }
 {
     UvAnswer::answer(refuse::exit(n, axis), compute::exit_point(n, axis))
 }
@@ -74,7 +69,7 @@ pub fn exit_point(n: Vector, axis: Axis) -> UvAnswer
 // where the line passes exactly through a corner that it shares. 4 for a face or target above 5, 2
 // where the exit point or n is not finite, 5 where n is all zero.
 pub fn next_face(face: u8, exit: Uv, axis: Axis, n: Vector, target: u8) -> FaceAnswer
-    ensures { λ r. ⌜ r ≡ faceAnswer (nextRefusal face exit n target) (nextFace face exit axis n target) ⌝ }
+    ensures { λ r. ⌜ r ≡ nextFaceOrRefusal face exit axis n target ⌝ }
 {
     FaceAnswer::answer(
         refuse::next(face, exit, n, target),

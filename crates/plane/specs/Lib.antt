@@ -3,5 +3,6 @@ pub mod Point
 pub mod Interval
 pub mod Rect
 pub mod Answers
+pub mod Entries
 pub mod Within
 pub mod Promises

@@ -1,21 +1,21 @@
 // Closed intervals of the line.
 ghost use mathlib.Core.Path.{_≡_};
-ghost use Rattle.float.specs.Choice.{_and_};
-ghost use Rattle.float.specs.Float.{finite};
-ghost use Rattle.answer.specs.Answer.{needFinite, yesNoAnswer};
 ghost use Rattle.plane.specs.Interval.{isEmpty, holds, contains, intersects, lesser, greater, unionOf, intersectionOf, between, endOf, finiteInterval};
 ghost use Rattle.plane.specs.Answers.{intervalAnswer};
+ghost use Rattle.plane.specs.Entries.{isEmptyOrRefusal, holdsOrRefusal, containsOrRefusal, intersectsOrRefusal, unionOrRefusal, intersectionOrRefusal, betweenOrRefusal};
 use answer::DONE;
 use answer::YesNo;
 use answer::both;
 use answer::need_finite;
 
+#[repr(C)]
 pub struct Interval {
     pub lo: f64,
     pub hi: f64,
 }
 
 // An interval beside 0, or 0..0 beside a refusal.
+#[repr(C)]
 pub struct IntervalAnswer {
     pub number: u8,
     pub interval: Interval,
@@ -23,14 +23,14 @@ pub struct IntervalAnswer {
 
 // Whether lo > hi.
 pub fn is_empty(i: Interval) -> YesNo
-    ensures { λ r. ⌜ r ≡ yesNoAnswer (needFinite (finiteInterval i)) (isEmpty i) ⌝ }
+    ensures { λ r. ⌜ r ≡ isEmptyOrRefusal i ⌝ }
 {
     YesNo::answer(need_finite(i.is_finite()), i.is_empty())
 }
 
 // Whether i holds the number x.
 pub fn contains(i: Interval, x: f64) -> YesNo
-    ensures { λ r. ⌜ r ≡ yesNoAnswer (needFinite (finiteInterval i and finite x)) (holds i x) ⌝ }
+    ensures { λ r. ⌜ r ≡ holdsOrRefusal i x ⌝ }
 {
     YesNo::answer(
         need_finite(both(i.is_finite(), float::is_finite(x))),
@@ -40,7 +40,7 @@ pub fn contains(i: Interval, x: f64) -> YesNo
 
 // Whether j lies in i; an empty one lies in every interval.
 pub fn contains_interval(i: Interval, j: Interval) -> YesNo
-    ensures { λ r. ⌜ r ≡ yesNoAnswer (needFinite (finiteInterval i and finiteInterval j)) (contains i j) ⌝ }
+    ensures { λ r. ⌜ r ≡ containsOrRefusal i j ⌝ }
 {
     YesNo::answer(
         need_finite(both(i.is_finite(), j.is_finite())),
@@ -50,7 +50,7 @@ pub fn contains_interval(i: Interval, j: Interval) -> YesNo
 
 // Whether i and j share a point.
 pub fn intersects(i: Interval, j: Interval) -> YesNo
-    ensures { λ r. ⌜ r ≡ yesNoAnswer (needFinite (finiteInterval i and finiteInterval j)) (intersects i j) ⌝ }
+    ensures { λ r. ⌜ r ≡ intersectsOrRefusal i j ⌝ }
 {
     YesNo::answer(
         need_finite(both(i.is_finite(), j.is_finite())),
@@ -60,14 +60,14 @@ pub fn intersects(i: Interval, j: Interval) -> YesNo
 
 // The least interval with all of i and j; i's end where two compare equal.
 pub fn union(i: Interval, j: Interval) -> IntervalAnswer
-    ensures { λ r. ⌜ r ≡ intervalAnswer (needFinite (finiteInterval i and finiteInterval j)) (unionOf i j) ⌝ }
+    ensures { λ r. ⌜ r ≡ unionOrRefusal i j ⌝ }
 {
     IntervalAnswer::answer(need_finite(both(i.is_finite(), j.is_finite())), i.union(j))
 }
 
 // What i and j share; i's end where two compare equal.
 pub fn intersection(i: Interval, j: Interval) -> IntervalAnswer
-    ensures { λ r. ⌜ r ≡ intervalAnswer (needFinite (finiteInterval i and finiteInterval j)) (intersectionOf i j) ⌝ }
+    ensures { λ r. ⌜ r ≡ intersectionOrRefusal i j ⌝ }
 {
     IntervalAnswer::answer(
         need_finite(both(i.is_finite(), j.is_finite())),
@@ -77,7 +77,7 @@ pub fn intersection(i: Interval, j: Interval) -> IntervalAnswer
 
 // The interval of two numbers; a..a where they compare equal.
 pub fn from_point_pair(a: f64, b: f64) -> IntervalAnswer
-    ensures { λ r. ⌜ r ≡ intervalAnswer (needFinite (finite a and finite b)) (between a b) ⌝ }
+    ensures { λ r. ⌜ r ≡ betweenOrRefusal a b ⌝ }
 {
     let i = Interval { lo: a, hi: b };
     IntervalAnswer::answer(need_finite(i.is_finite()), Interval::from_point_pair(a, b))

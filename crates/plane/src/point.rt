@@ -1,21 +1,21 @@
 // Points of the plane.
 ghost use mathlib.Core.Path.{_≡_};
-ghost use Rattle.float.specs.Choice.{_and_};
-ghost use Rattle.float.specs.Float.{finite};
-ghost use Rattle.answer.specs.Answer.{needFinite, realAnswer};
-ghost use Rattle.plane.specs.Point.{at, sumOf, differenceOf, scaledBy, orthoOf, dotOf, crossOf, finitePoint};
+ghost use Rattle.plane.specs.Point.{sumOf, differenceOf, scaledBy, orthoOf, dotOf, crossOf, finitePoint};
 ghost use Rattle.plane.specs.Answers.{pointAnswer};
+ghost use Rattle.plane.specs.Entries.{newOrRefusal, orthoOrRefusal, dotOrRefusal, crossOrRefusal, sumOrRefusal, differenceOrRefusal, scaledOrRefusal};
 use answer::DONE;
 use answer::Real;
 use answer::both;
 use answer::need_finite;
 
+#[repr(C)]
 pub struct Point {
     pub x: f64,
     pub y: f64,
 }
 
 // A point beside 0, or the origin beside a refusal.
+#[repr(C)]
 pub struct PointAnswer {
     pub number: u8,
     pub point: Point,
@@ -23,7 +23,7 @@ pub struct PointAnswer {
 
 // The point at x, y.
 pub fn new(x: f64, y: f64) -> PointAnswer
-    ensures { λ r. ⌜ r ≡ pointAnswer (needFinite (finite x and finite y)) (at x y) ⌝ }
+    ensures { λ r. ⌜ r ≡ newOrRefusal x y ⌝ }
 {
     let p = Point { x, y };
     PointAnswer::answer(need_finite(p.is_finite()), p)
@@ -31,31 +31,31 @@ pub fn new(x: f64, y: f64) -> PointAnswer
 
 // The point a quarter turn against the clock from p.
 pub fn ortho(p: Point) -> PointAnswer
-    ensures { λ r. ⌜ r ≡ pointAnswer (needFinite (finitePoint p)) (orthoOf p) ⌝ }
+    ensures { λ r. ⌜ r ≡ orthoOrRefusal p ⌝ }
 {
     PointAnswer::answer(need_finite(p.is_finite()), p.ortho())
 }
 
 pub fn dot(p: Point, q: Point) -> Real
-    ensures { λ r. ⌜ r ≡ realAnswer (needFinite (finitePoint p and finitePoint q)) (dotOf p q) ⌝ }
+    ensures { λ r. ⌜ r ≡ dotOrRefusal p q ⌝ }
 {
     Real::answer(need_finite(both(p.is_finite(), q.is_finite())), p.dot(q))
 }
 
 pub fn cross(p: Point, q: Point) -> Real
-    ensures { λ r. ⌜ r ≡ realAnswer (needFinite (finitePoint p and finitePoint q)) (crossOf p q) ⌝ }
+    ensures { λ r. ⌜ r ≡ crossOrRefusal p q ⌝ }
 {
     Real::answer(need_finite(both(p.is_finite(), q.is_finite())), p.cross(q))
 }
 
 pub fn sum(p: Point, q: Point) -> PointAnswer
-    ensures { λ r. ⌜ r ≡ pointAnswer (needFinite (finitePoint p and finitePoint q)) (sumOf p q) ⌝ }
+    ensures { λ r. ⌜ r ≡ sumOrRefusal p q ⌝ }
 {
     PointAnswer::answer(need_finite(both(p.is_finite(), q.is_finite())), p.sum(q))
 }
 
 pub fn difference(p: Point, q: Point) -> PointAnswer
-    ensures { λ r. ⌜ r ≡ pointAnswer (needFinite (finitePoint p and finitePoint q)) (differenceOf p q) ⌝ }
+    ensures { λ r. ⌜ r ≡ differenceOrRefusal p q ⌝ }
 {
     PointAnswer::answer(
         need_finite(both(p.is_finite(), q.is_finite())),
@@ -64,7 +64,7 @@ pub fn difference(p: Point, q: Point) -> PointAnswer
 }
 
 pub fn scaling(p: Point, factor: f64) -> PointAnswer
-    ensures { λ r. ⌜ r ≡ pointAnswer (needFinite (finitePoint p and finite factor)) (scaledBy p factor) ⌝ }
+    ensures { λ r. ⌜ r ≡ scaledOrRefusal p factor ⌝ }
 {
     PointAnswer::answer(
         need_finite(both(p.is_finite(), float::is_finite(factor))),

@@ -1,12 +1,8 @@
 // Rectangles: a closed interval on each axis.
 ghost use mathlib.Core.Path.{_≡_};
-ghost use mathlib.Core.Bool.{false, true, not};
-ghost use lib.Dec.{eqb};
-ghost use Rattle.float.specs.Choice.{_and_};
-ghost use Rattle.answer.specs.Answer.{needFinite, yesNoAnswer};
-ghost use Rattle.plane.specs.Point.{finitePoint};
 ghost use Rattle.plane.specs.Rect.{boxOf, cornerOf, verticesOf, isEmptyRect, containsPoint, containsRect, intersectsRect, unionRect, orEmpty, intersectionRect, finiteRect};
-ghost use Rattle.plane.specs.Answers.{pointAnswer, rectAnswer, cornersAnswer};
+ghost use Rattle.plane.specs.Answers.{rectAnswer, cornersAnswer};
+ghost use Rattle.plane.specs.Entries.{boxOrRefusal, verticesOrRefusal, vertexOrRefusal, loOrRefusal, hiOrRefusal, isEmptyRectOrRefusal, containsPointOrRefusal, containsRectOrRefusal, intersectsRectOrRefusal, unionRectOrRefusal, intersectionRectOrRefusal};
 use crate::interval::Interval;
 use crate::point::Point;
 use crate::point::PointAnswer;
@@ -15,18 +11,21 @@ use answer::YesNo;
 use answer::both;
 use answer::need_finite;
 
+#[repr(C)]
 pub struct Rect {
     pub x: Interval,
     pub y: Interval,
 }
 
 // A rectangle beside 0, or 0..0 on both axes beside a refusal.
+#[repr(C)]
 pub struct RectAnswer {
     pub number: u8,
     pub rect: Rect,
 }
 
 // Four corners beside 0, or four origins beside a refusal.
+#[repr(C)]
 pub struct Corners {
     pub number: u8,
     pub vertices: [Point; 4],
@@ -34,7 +33,7 @@ pub struct Corners {
 
 // The box of two points; a's coordinate where two compare equal.
 pub fn from_points(a: Point, b: Point) -> RectAnswer
-    ensures { λ r. ⌜ r ≡ rectAnswer (needFinite (finitePoint a and finitePoint b)) (boxOf a b) ⌝ }
+    ensures { λ r. ⌜ r ≡ boxOrRefusal a b ⌝ }
 {
     RectAnswer::answer(
         need_finite(both(a.is_finite(), b.is_finite())),
@@ -44,39 +43,39 @@ pub fn from_points(a: Point, b: Point) -> RectAnswer
 
 // The four corners, from the low one against the clock.
 pub fn vertices(r: Rect) -> Corners
-    ensures { λ c. ⌜ c ≡ cornersAnswer (needFinite (finiteRect r)) (verticesOf r) ⌝ }
+    ensures { λ c. ⌜ c ≡ verticesOrRefusal r ⌝ }
 {
     Corners::answer(need_finite(r.is_finite()), r.vertices())
 }
 
 // The corner at i along x and j along y: 0 is low, any other number high.
 pub fn vertex_ij(r: Rect, i: u64, j: u64) -> PointAnswer
-    ensures { λ c. ⌜ c ≡ pointAnswer (needFinite (finiteRect r)) (cornerOf r (not (eqb i 0)) (not (eqb j 0))) ⌝ }
+    ensures { λ c. ⌜ c ≡ vertexOrRefusal r i j ⌝ }
 {
     PointAnswer::answer(need_finite(r.is_finite()), r.vertex(i != 0, j != 0))
 }
 
 pub fn lo(r: Rect) -> PointAnswer
-    ensures { λ c. ⌜ c ≡ pointAnswer (needFinite (finiteRect r)) (cornerOf r false false) ⌝ }
+    ensures { λ c. ⌜ c ≡ loOrRefusal r ⌝ }
 {
     PointAnswer::answer(need_finite(r.is_finite()), r.vertex(false, false))
 }
 
 pub fn hi(r: Rect) -> PointAnswer
-    ensures { λ c. ⌜ c ≡ pointAnswer (needFinite (finiteRect r)) (cornerOf r true true) ⌝ }
+    ensures { λ c. ⌜ c ≡ hiOrRefusal r ⌝ }
 {
     PointAnswer::answer(need_finite(r.is_finite()), r.vertex(true, true))
 }
 
 // Whether x is empty; y is not asked.
 pub fn is_empty(r: Rect) -> YesNo
-    ensures { λ a. ⌜ a ≡ yesNoAnswer (needFinite (finiteRect r)) (isEmptyRect r) ⌝ }
+    ensures { λ a. ⌜ a ≡ isEmptyRectOrRefusal r ⌝ }
 {
     YesNo::answer(need_finite(r.is_finite()), r.is_empty())
 }
 
 pub fn contains_point(r: Rect, p: Point) -> YesNo
-    ensures { λ a. ⌜ a ≡ yesNoAnswer (needFinite (finiteRect r and finitePoint p)) (containsPoint r p) ⌝ }
+    ensures { λ a. ⌜ a ≡ containsPointOrRefusal r p ⌝ }
 {
     YesNo::answer(
         need_finite(both(r.is_finite(), p.is_finite())),
@@ -85,7 +84,7 @@ pub fn contains_point(r: Rect, p: Point) -> YesNo
 }
 
 pub fn contains(r: Rect, q: Rect) -> YesNo
-    ensures { λ a. ⌜ a ≡ yesNoAnswer (needFinite (finiteRect r and finiteRect q)) (containsRect r q) ⌝ }
+    ensures { λ a. ⌜ a ≡ containsRectOrRefusal r q ⌝ }
 {
     YesNo::answer(
         need_finite(both(r.is_finite(), q.is_finite())),
@@ -94,7 +93,7 @@ pub fn contains(r: Rect, q: Rect) -> YesNo
 }
 
 pub fn intersects(r: Rect, q: Rect) -> YesNo
-    ensures { λ a. ⌜ a ≡ yesNoAnswer (needFinite (finiteRect r and finiteRect q)) (intersectsRect r q) ⌝ }
+    ensures { λ a. ⌜ a ≡ intersectsRectOrRefusal r q ⌝ }
 {
     YesNo::answer(
         need_finite(both(r.is_finite(), q.is_finite())),
@@ -103,14 +102,14 @@ pub fn intersects(r: Rect, q: Rect) -> YesNo
 }
 
 pub fn union(r: Rect, q: Rect) -> RectAnswer
-    ensures { λ a. ⌜ a ≡ rectAnswer (needFinite (finiteRect r and finiteRect q)) (unionRect r q) ⌝ }
+    ensures { λ a. ⌜ a ≡ unionRectOrRefusal r q ⌝ }
 {
     RectAnswer::answer(need_finite(both(r.is_finite(), q.is_finite())), r.union(q))
 }
 
 // What both share; `Rect::EMPTY` where either axis comes out empty.
 pub fn intersection(r: Rect, q: Rect) -> RectAnswer
-    ensures { λ a. ⌜ a ≡ rectAnswer (needFinite (finiteRect r and finiteRect q)) (intersectionRect r q) ⌝ }
+    ensures { λ a. ⌜ a ≡ intersectionRectOrRefusal r q ⌝ }
 {
     RectAnswer::answer(
         need_finite(both(r.is_finite(), q.is_finite())),

@@ -10,6 +10,7 @@ use cube::Vector;
 use cube::compute::Uv;
 
 // The count of segments beside 0, or 0 beside another number.
+#[repr(C)]
 pub struct WalkAnswer {
     pub number: u8,
     pub count: usize,

@@ -1,0 +1,256 @@
+/* umblacet.h: chart code that is proved to do what it says. Link with libumblacet.a (`rt staticlib umblacet`).
+ *
+ * Every function answers every input: NaN, infinities, empty windows, faces above 5 and short buffers get a number,
+ * and nothing traps. An answer is a struct whose first member is that number. Beside any number but UMB_DONE all its
+ * other members are zeros (no, face 0, axis U). Arguments are taken by value and nothing is kept between calls, so
+ * every function may be called from any thread. Only umb_walk is lent memory, and says what it leaves there; no other
+ * function writes anywhere but its answer.
+ *
+ * All floats are IEEE 754 binary64, round to nearest, ties to even, which is how a C program starts: a caller that has
+ * set another rounding, or flushes subnormals to zero, sets that back before a call. A bool holds 0 or 1.
+ *
+ * "Of these numbers" below means: where two would apply, the first of them in the order given is answered. */
+#ifndef UMBLACET_H
+#define UMBLACET_H
+
+#include <stdbool.h>
+#include <stddef.h>
+#include <stdint.h>
+
+#ifdef __cplusplus
+extern "C" {
+#endif
+
+/* ---- the numbers */
+
+enum {
+    UMB_DONE = 0,         /* kept, or done */
+    UMB_MISSED = 1,       /* no part in the window; a vector not on the side of the asked face */
+    UMB_NOT_FINITE = 2,   /* a float other than the window's is NaN or an infinity */
+    UMB_BAD_WINDOW = 3,   /* a window side is not finite, or lo > hi on an axis */
+    UMB_BAD_FACE = 4,     /* a face above 5, an axis above 2, a direction above 1 */
+    UMB_ZERO = 5,         /* a vector or normal all zero, or a division by zero */
+    UMB_OFF_FACE = 6,     /* the line does not meet a face that is not the target */
+    UMB_UNFINISHED = 7,   /* the target is not among the first 8 faces: no longer walk would reach it */
+    UMB_SHORT_BUFFER = 8  /* the buffer holds fewer whole records than there are */
+};
+
+/* ---- what is handed in */
+
+typedef struct umb_point {
+    double x, y;
+} umb_point;
+
+/* Closed; empty where lo > hi. */
+typedef struct umb_interval {
+    double lo, hi;
+} umb_interval;
+
+typedef struct umb_rect {
+    umb_interval x, y;
+} umb_rect;
+
+/* A vector, or the normal of a line in a face's u, v, w (x is its u, y its v, z its w). */
+typedef struct umb_vector {
+    double x, y, z;
+} umb_vector;
+
+/* A point of a face. */
+typedef struct umb_uv {
+    double u, v;
+} umb_uv;
+
+/* An axis of a face. */
+enum { UMB_U = 0, UMB_V = 1 };
+
+/* ---- what is answered */
+
+typedef struct umb_real {
+    uint8_t number;
+    double value;
+} umb_real;
+
+typedef struct umb_yes_no {
+    uint8_t number;
+    bool yes;
+} umb_yes_no;
+
+typedef struct umb_point_answer {
+    uint8_t number;
+    umb_point point;
+} umb_point_answer;
+
+typedef struct umb_interval_answer {
+    uint8_t number;
+    umb_interval interval;
+} umb_interval_answer;
+
+typedef struct umb_rect_answer {
+    uint8_t number;
+    umb_rect rect;
+} umb_rect_answer;
+
+typedef struct umb_corners {
+    uint8_t number;
+    umb_point vertices[4];
+} umb_corners;
+
+/* The bounds of an axis and of the other. */
+typedef struct umb_axes {
+    uint8_t number;
+    umb_interval bound0, bound1;
+} umb_axes;
+
+/* The kept points of an edge. */
+typedef struct umb_cut {
+    uint8_t number;
+    umb_point a, b;
+} umb_cut;
+
+typedef struct umb_face_answer {
+    uint8_t number;
+    uint8_t face;
+} umb_face_answer;
+
+typedef struct umb_face_uv {
+    uint8_t number;
+    uint8_t face;
+    double u, v;
+} umb_face_uv;
+
+typedef struct umb_uv_answer {
+    uint8_t number;
+    double u, v;
+} umb_uv_answer;
+
+typedef struct umb_vector_answer {
+    uint8_t number;
+    umb_vector vector;
+} umb_vector_answer;
+
+typedef struct umb_axis_answer {
+    uint8_t number;
+    uint8_t axis;
+} umb_axis_answer;
+
+typedef struct umb_walk_answer {
+    uint8_t number;
+    size_t count;
+} umb_walk_answer;
+
+/* ---- points. 2 where a float handed in is not finite, else 0. */
+
+umb_point_answer umb_point_new(double x, double y);
+umb_point_answer umb_point_add(umb_point p, umb_point q);
+umb_point_answer umb_point_sub(umb_point p, umb_point q);
+umb_point_answer umb_point_mul(umb_point p, double m);
+/* A quarter turn against the clock. */
+umb_point_answer umb_point_ortho(umb_point p);
+umb_real umb_point_dot(umb_point p, umb_point q);
+umb_real umb_point_cross(umb_point p, umb_point q);
+
+/* ---- intervals. 2 where a float handed in is not finite, else 0. An empty interval is admitted: it holds nothing,
+ * lies in every interval and adds nothing to a union. */
+
+umb_yes_no umb_interval_is_empty(umb_interval i);
+umb_yes_no umb_interval_contains(umb_interval i, double x);
+umb_yes_no umb_interval_contains_interval(umb_interval i, umb_interval j);
+umb_yes_no umb_interval_intersects(umb_interval i, umb_interval j);
+/* i's end where two compare equal, here and in the intersection: it shows in the sign of a zero. */
+umb_interval_answer umb_interval_union(umb_interval i, umb_interval j);
+umb_interval_answer umb_interval_intersection(umb_interval i, umb_interval j);
+/* From the lesser to the greater; a where the two compare equal. */
+umb_interval_answer umb_interval_from_point_pair(double a, double b);
+
+/* ---- rectangles. 2 where a float handed in is not finite, else 0. Empty rectangles are admitted, axis by axis. */
+
+/* 1..0 on both axes. */
+umb_rect umb_rect_empty(void);
+/* The box of two points; a's coordinate where two compare equal. */
+umb_rect_answer umb_rect_from_points(umb_point a, umb_point b);
+/* The corners from the low one against the clock. */
+umb_corners umb_rect_vertices(umb_rect r);
+/* 0 is low, any other number high. */
+umb_point_answer umb_rect_vertex_ij(umb_rect r, uint64_t i, uint64_t j);
+umb_point_answer umb_rect_lo(umb_rect r);
+umb_point_answer umb_rect_hi(umb_rect r);
+/* Whether x is empty; y is not asked. */
+umb_yes_no umb_rect_is_empty(umb_rect r);
+umb_yes_no umb_rect_contains_point(umb_rect r, umb_point p);
+/* Whether q lies in r, on each axis. */
+umb_yes_no umb_rect_contains(umb_rect r, umb_rect q);
+umb_yes_no umb_rect_intersects(umb_rect r, umb_rect q);
+umb_rect_answer umb_rect_union(umb_rect r, umb_rect q);
+/* umb_rect_empty() where either axis comes out empty. */
+umb_rect_answer umb_rect_intersection(umb_rect r, umb_rect q);
+
+/* ---- cutting an edge to a window */
+
+/* The part of the edge from a to b that lies in the window. Of these numbers: 2, 3, then 1 where nothing is left, or 0.
+ * Kept points lie in the window and in the edge's own box; an edge inside the window comes back as it was (where a and
+ * b compare equal on an axis, both with a's coordinate); a dead sample is never joined to anything. */
+umb_cut umb_clip_edge(umb_point a, umb_point b, umb_rect window);
+/* Whether the edge meets the window. Of these numbers: 2, 3, 0. It is the crate's test, which rounds, and may differ
+ * from umb_clip_edge in the last bit. */
+umb_yes_no umb_edge_intersects_rect(umb_point a, umb_point b, umb_rect window);
+/* What is left in the window of the bound of some part of the edge. Of these numbers: 2, 3, 1, 0. */
+umb_rect_answer umb_clip_edge_bound(umb_point a, umb_point b, umb_rect window, umb_rect bound);
+/* The same on one axis of the line from (a0, a1) to (b0, b1): bound0 is cut to the window and bound1 with it. Of these
+ * numbers: 2, 3, 1, 0. */
+umb_axes umb_clip_bound_axis(double a0, double b0, umb_interval bound0, double a1, double b1, umb_interval bound1,
+                             bool neg_slope, umb_interval window);
+/* The bound with its high end, or its low, moved to the value; never wider. 2, 1 where nothing is left, or 0. */
+umb_interval_answer umb_update_endpoint(umb_interval bound, bool high_endpoint, double value);
+/* The value at x on the line through (a, a1) and (b, b1). 2 or 0. */
+umb_real umb_interpolate(double x, double a, double b, double a1, double b1);
+
+/* ---- the six faces of the cube */
+
+/* The face that r points at, ties to the lower axis. Of these numbers: 2, 5, 0. */
+umb_face_answer umb_face(umb_vector r);
+/* That face and r's (u, v) there, both from -1 to 1. Of these numbers: 2, 5, 0. */
+umb_face_uv umb_xyz_to_face_uv(umb_vector r);
+/* r's (u, v) on the asked face. Of these numbers: 4, 2, 1 where r is not on that side of the cube, 0. */
+umb_uv_answer umb_face_xyz_to_uv(uint8_t face, umb_vector r);
+/* The point at (u, v) of a face. 4, 2 or 0. */
+umb_vector_answer umb_face_uv_to_xyz(uint8_t face, double u, double v);
+/* r in the face's own u, v, w. 4, 2 or 0. */
+umb_vector_answer umb_face_xyz_to_uvw(uint8_t face, umb_vector r);
+/* The face that an axis (0, 1, 2 for u, v, w) of a face points at, direction 0 for minus and 1 for plus. 4 or 0. */
+umb_face_answer umb_uvw_face(uint8_t face, uint8_t axis, uint8_t direction);
+/* The unit vector along a face's u or v. 4 or 0. */
+umb_vector_answer umb_u_axis(uint8_t face);
+umb_vector_answer umb_v_axis(uint8_t face);
+/* A normal of the plane through the cube's centre and the face's line at this u, or at this v. 4, 2 or 0. */
+umb_vector_answer umb_unorm(uint8_t face, double u);
+umb_vector_answer umb_vnorm(uint8_t face, double v);
+
+/* ---- a line, by its normal in a face's u, v, w */
+
+/* Whether u + v = w, exactly. 2 or 0. */
+umb_yes_no umb_sum_equal(double u, double v, double w);
+/* Whether the line meets the face, exactly: |nu| + |nv| >= |nw|, so yes for the zero normal. 2 or 0. */
+umb_yes_no umb_intersects_face(umb_vector n);
+/* Whether it passes opposite edges of the face, exactly: ||nu| - |nv|| >= |nw|, so yes for the zero normal. 2 or 0. */
+umb_yes_no umb_intersects_opposite_edges(umb_vector n);
+/* The axis over which the line leaves the face. Of these numbers: 2, 5, 0. */
+umb_axis_answer umb_exit_axis(umb_vector n);
+/* Where it leaves over an axis (UMB_U, or V for any other number). Of these numbers: 2, 5 where the divisor is zero, 0. */
+umb_uv_answer umb_exit_point(umb_vector n, uint8_t axis);
+/* The face that the line enters there; the target where it passes exactly through a corner that both share. Of these
+ * numbers: 4 for face or target, 2, 5, 0. */
+umb_face_answer umb_next_face(uint8_t face, umb_uv exit, uint8_t axis, umb_vector n, uint8_t target);
+
+/* The segments of the line with this normal (in x, y, z) from the point a of a face to the point b of the target: a
+ * record of 40 bytes for each, from out on, and their count, 1 to 6 where the line meets the first face. A record is
+ * the face, seven zero bytes, and a.u, a.v, b.u, b.v as little-endian bits. Of these numbers: 4 for face or target, 2,
+ * 5, 6 or 7 as the walk finds them, 8, 0. Beside 0 the bytes after the last record stay as they were; beside any other
+ * number all of out does. out is not null and has out_length bytes, which may be 0; 240 always hold a walk. */
+umb_walk_answer umb_walk(uint8_t face, umb_uv a, uint8_t target, umb_uv b, umb_vector normal, uint8_t *out,
+                         size_t out_length);
+
+#ifdef __cplusplus
+}
+#endif
+
+#endif
