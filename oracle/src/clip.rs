@@ -57,6 +57,11 @@ pub fn clip_edge_bound(a: Point, b: Point, window: Rect, bound: Rect) -> Answer<
 
 pub fn clip_edge(a: Point, b: Point, window: Rect) -> Answer<(Point, Point)> {
     admit(&[&a, &b], &[window.x, window.y])?;
+    clip_edge_unrefused(a, b, window)
+}
+
+/// What the crate answers for any floats, with no refusal before it.
+pub fn clip_edge_unrefused(a: Point, b: Point, window: Rect) -> Answer<(Point, Point)> {
     match edge_clipping::clip_edge(a, b, window) {
         (kept_a, kept_b, true) => Ok((kept_a, kept_b)),
         (_, _, false) => Err(MISSED),

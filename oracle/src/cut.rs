@@ -1,6 +1,8 @@
 //! `oracle cut`: the line that document 01's program has to give for each record.
+//! `oracle crate-cut`: the line of the crate's own answer, nothing refused.
 
-use crate::clip::clip_edge;
+use crate::number::Answer;
+use crate::r2::{point::Point, rect::Rect};
 use crate::stream::{answer_records, words, write_line};
 use crate::words::{shown, Arguments};
 use std::io;
@@ -8,7 +10,7 @@ use std::io;
 /// Words of a record: a, b, the window's low corner and its high corner.
 const RECORD: usize = 8;
 
-pub fn run() -> io::Result<()> {
+pub fn run(clip_edge: fn(Point, Point, Rect) -> Answer<(Point, Point)>) -> io::Result<()> {
     answer_records(|record: &[u8; 8 * RECORD], output| {
         let record: [u64; RECORD] = words(record);
         let mut a = Arguments::new(&record);

@@ -38,6 +38,7 @@ use std::{env, io};
 
 const USAGE: &str = "\
 oracle cut < RECORDS            a line for each 64-byte record, as document 01's program writes it
+oracle crate-cut < RECORDS      the same from the crate alone, nothing refused: a dead sample is drawn
 oracle records KIND N SEED      N seeded records; KIND is bits or edges
 oracle answers < REQUESTS       a line for each 192-byte request, as the answering program writes it
 oracle requests N SEED          N seeded requests, every operation among them
@@ -60,7 +61,8 @@ fn main() -> ExitCode {
 /// Says no where a comparison found a difference.
 fn run(arguments: &[&str]) -> io::Result<bool> {
     match arguments {
-        ["cut"] => cut::run()?,
+        ["cut"] => cut::run(clip::clip_edge)?,
+        ["crate-cut"] => cut::run(clip::clip_edge_unrefused)?,
         ["answers"] => answers::run()?,
         ["requests", count, seed] => requests::run(whole(count)?, whole(seed)?)?,
         ["grid"] => grid::run()?,
