@@ -1,0 +1,12 @@
+#ifndef LINE_H
+#define LINE_H
+
+#include "answer.h"
+
+/* The number and, beside 0, the words. */
+void write_answer(const answer *a);
+/* The number and the words whatever the number, then the buffer's bytes. */
+void write_walk(const answer *a, const uint8_t *bytes, size_t length);
+void write_number(uint8_t number);
+
+#endif

@@ -1,0 +1,25 @@
+/* A request of the answering program: the operation, then its arguments, each taken by the place of its first word. */
+#ifndef REQUEST_H
+#define REQUEST_H
+
+#include "umblacet.h"
+
+enum { REQUEST_WORDS = 24, REQUEST_BYTES = 8 * REQUEST_WORDS };
+
+typedef struct request {
+    uint64_t words[REQUEST_WORDS];
+} request;
+
+request request_of(const uint8_t bytes[REQUEST_BYTES]);
+
+double float_at(const request *r, size_t place);
+umb_point point_at(const request *r, size_t place);
+umb_interval interval_at(const request *r, size_t place);
+umb_rect rect_at(const request *r, size_t place);
+umb_vector vector_at(const request *r, size_t place);
+umb_uv uv_at(const request *r, size_t place);
+bool yes_at(const request *r, size_t place);
+/* A face, axis or direction: 255 for a word above it. */
+uint8_t number_at(const request *r, size_t place);
+
+#endif
