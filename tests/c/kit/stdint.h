@@ -1,0 +1,8 @@
+#ifndef STDINT_H
+#define STDINT_H
+
+typedef __UINT8_TYPE__ uint8_t;
+typedef __UINT64_TYPE__ uint64_t;
+#define UINT8_MAX 255
+
+#endif
