@@ -190,8 +190,8 @@ umb_rect_answer umb_rect_intersection(umb_rect r, umb_rect q);
  * Kept points lie in the window and in the edge's own box; an edge inside the window comes back as it was (where a and
  * b compare equal on an axis, both with a's coordinate); a dead sample is never joined to anything. */
 umb_cut umb_clip_edge(umb_point a, umb_point b, umb_rect window);
-/* Whether the edge meets the window. Of these numbers: 2, 3, 0. It is the crate's test, which rounds, and may differ
- * from umb_clip_edge in the last bit. */
+/* Whether the edge meets the window. Of these numbers: 2, 3, 0. It is the crate's test, which rounds: it need not agree
+ * with umb_clip_edge, least of all where its products overflow or underflow. */
 umb_yes_no umb_edge_intersects_rect(umb_point a, umb_point b, umb_rect window);
 /* What is left in the window of the bound of some part of the edge. Of these numbers: 2, 3, 1, 0. */
 umb_rect_answer umb_clip_edge_bound(umb_point a, umb_point b, umb_rect window, umb_rect bound);
