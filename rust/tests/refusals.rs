@@ -1,0 +1,73 @@
+//! Each refusal through the safe functions, and what the walk leaves in a buffer.
+
+use std::error::Error;
+use umblacet::r1::interval::Interval;
+use umblacet::r2::{point::Point, rect::Rect};
+use umblacet::r3::vector::Vector;
+use umblacet::s2::edge_clipping::{clip_edge, walk};
+use umblacet::s2::stuv::face_xyz_to_uv;
+use umblacet::Refusal;
+
+const ORIGIN: Point = Point { x: 0.0, y: 0.0 };
+const LEVEL: Vector = Vector::new(0.0, 0.0, 1.0);
+const UNTOUCHED: u8 = 0xa5;
+
+/// Walks from face to target, both at the origin, in a buffer of this length.
+fn walked(face: u8, target: u8, to: Point, normal: Vector, length: usize) -> (Result<usize, Refusal>, Vec<u8>) {
+    let mut bytes = vec![UNTOUCHED; length];
+    (walk(face, ORIGIN, target, to, normal, &mut bytes), bytes)
+}
+
+#[test]
+fn a_refused_walk_leaves_its_buffer() {
+    let dead = Point { x: f64::INFINITY, y: 0.0 };
+    let zero = Vector::new(0.0, -0.0, 0.0);
+    let off = Vector::new(1.0, 0.0, 0.0);
+    for (refusal, (answer, bytes)) in [
+        (Refusal::BadFace, walked(6, 3, dead, zero, 120)),
+        (Refusal::BadFace, walked(0, 255, ORIGIN, LEVEL, 120)),
+        (Refusal::NotFinite, walked(0, 3, dead, zero, 120)),
+        (Refusal::Zero, walked(0, 3, ORIGIN, zero, 120)),
+        (Refusal::OffFace, walked(0, 1, ORIGIN, off, 120)),
+        (Refusal::Unfinished, walked(0, 2, ORIGIN, LEVEL, 400)),
+        (Refusal::ShortBuffer, walked(0, 3, ORIGIN, LEVEL, 119)),
+        (Refusal::ShortBuffer, walked(0, 0, ORIGIN, LEVEL, 0)),
+    ] {
+        assert_eq!(answer, Err(refusal));
+        assert!(bytes.iter().all(|byte| *byte == UNTOUCHED), "{refusal}");
+    }
+}
+
+#[test]
+fn a_walk_leaves_the_bytes_after_its_records() {
+    let (answer, bytes) = walked(0, 3, ORIGIN, LEVEL, 130);
+    assert_eq!(answer, Ok(3));
+    assert_eq!(bytes[120..], [UNTOUCHED; 10]);
+    assert_eq!([bytes[0], bytes[40], bytes[80]], [0, 1, 3]);
+}
+
+#[test]
+fn edges_and_windows() {
+    let axis = |lo, hi| Interval { lo, hi };
+    let window = |x| Rect { x, y: axis(0.0, 2.0) };
+    let (b, dead) = (Point { x: 4.0, y: 2.0 }, Point { x: 4.0, y: f64::NAN });
+    assert_eq!(clip_edge(ORIGIN, b, window(axis(3.0, 1.0))), Err(Refusal::BadWindow));
+    assert_eq!(clip_edge(ORIGIN, b, window(axis(1.0, f64::INFINITY))), Err(Refusal::BadWindow));
+    assert_eq!(clip_edge(ORIGIN, dead, window(axis(3.0, 1.0))), Err(Refusal::NotFinite), "before the window");
+    assert_eq!(clip_edge(ORIGIN, b, window(axis(5.0, 6.0))), Err(Refusal::Missed));
+}
+
+#[test]
+fn faces_and_points() {
+    assert_eq!(face_xyz_to_uv(0, &Vector::new(-1.0, 0.0, 0.0)), Err(Refusal::Missed));
+    assert_eq!(face_xyz_to_uv(6, &Vector::new(f64::NAN, 0.0, 0.0)), Err(Refusal::BadFace), "before the vector");
+    assert_eq!(Point::new(f64::NAN, 0.0), Err(Refusal::NotFinite));
+    assert_eq!(Point { x: f64::MAX, y: 0.0 } * 2.0, Ok(Point { x: f64::INFINITY, y: 0.0 }), "overflow is an answer");
+}
+
+#[test]
+fn a_refusal_is_an_error() {
+    let error: Box<dyn Error> = Refusal::BadWindow.into();
+    assert_eq!(error.to_string(), "the window has a side that is not finite, or lo > hi");
+    assert_eq!(Refusal::BadWindow.number(), 3);
+}

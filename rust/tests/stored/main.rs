@@ -1,0 +1,171 @@
+//! The stored list of `crates/answers`: the lines that the Rust crate s2 gave, asked of this crate.
+
+mod words;
+
+use std::fs;
+use std::path::{Path, PathBuf};
+use umblacet::r1::interval::Interval;
+use umblacet::r2::{point::Point, rect::Rect};
+use umblacet::s2::edge_clipping::{self, FaceSegment};
+use umblacet::s2::stuv;
+use umblacet::Refusal;
+use words::{Arguments, Shown, REQUEST};
+
+const WALK: u64 = 60;
+const RECORD: usize = 40;
+
+#[test]
+fn every_line() {
+    let (requests, stored) = list();
+    for (place, (request, stored)) in requests.iter().zip(&stored).enumerate() {
+        assert_eq!(&line(request), stored, "request {place}, operation {}", request[0]);
+    }
+}
+
+/// What `segments` gives is what the walk writes, wherever there is room for it.
+#[test]
+fn every_walk_has_its_segments() {
+    for request in list().0.iter().filter(|request| request[0] == WALK) {
+        let (walked, bytes) = walk(&mut arguments(request));
+        let mut a = arguments(request);
+        match edge_clipping::segments(a.take(), a.take(), a.take(), a.take(), a.take()) {
+            Ok(segments) if walked.is_ok() => {
+                assert_eq!(walked, Ok(segments.len()));
+                assert!(bytes.starts_with(&segments.iter().flat_map(record).collect::<Vec<u8>>()));
+            }
+            Ok(segments) => {
+                assert_eq!(walked, Err(Refusal::ShortBuffer));
+                assert!(bytes.len() / RECORD < segments.len());
+            }
+            Err(refusal) => assert_eq!(walked, Err(refusal)),
+        }
+    }
+}
+
+/// The whole requests, and a line for each; the last line is for the torn end, and is not asked here.
+fn list() -> (Vec<[u64; REQUEST]>, Vec<String>) {
+    let bytes = fs::read(stored("stdin")).expect("the stored requests");
+    let text = fs::read_to_string(stored("stdout")).expect("the stored lines");
+    let mut lines: Vec<String> = text.lines().map(String::from).collect();
+    let whole = bytes.chunks_exact(8 * REQUEST);
+    assert!(!whole.remainder().is_empty() && lines.pop().as_deref() == Some("9"), "a torn end");
+    let requests: Vec<_> = whole.map(request).collect();
+    assert!(!requests.is_empty() && requests.len() == lines.len(), "a line for each request");
+    (requests, lines)
+}
+
+fn stored(name: &str) -> PathBuf {
+    Path::new(env!("CARGO_MANIFEST_DIR")).join("../crates/answers").join(name)
+}
+
+fn request(bytes: &[u8]) -> [u64; REQUEST] {
+    let mut words = [0; REQUEST];
+    for (word, bytes) in words.iter_mut().zip(bytes.chunks_exact(8)) {
+        *word = u64::from_le_bytes(bytes.try_into().expect("eight bytes"));
+    }
+    words
+}
+
+fn arguments(request: &[u64; REQUEST]) -> Arguments<'_> {
+    Arguments(request[1..].iter())
+}
+
+fn line(request: &[u64; REQUEST]) -> String {
+    let mut a = arguments(request);
+    if request[0] != WALK {
+        return answered(request[0], &mut a).unwrap_or_else(|| "255".into());
+    }
+    let (walked, bytes) = walk(&mut a);
+    let (number, count) = walked.map_or_else(|refusal| (refusal.number(), 0), |count| (0, count));
+    let bytes: String = bytes.iter().map(|byte| format!("{byte:02x}")).collect();
+    format!("{number} {count:016x} {bytes}").trim_end().into()
+}
+
+/// The line of an operation other than the walk; none where it is not listed. Rust takes arguments from left to right,
+/// so each function's own signature reads the request.
+fn answered(operation: u64, a: &mut Arguments) -> Option<String> {
+    Some(match operation {
+        1 => shown(a.take::<Point>() + a.take::<Point>()),
+        2 => shown(a.take::<Point>() - a.take::<Point>()),
+        3 => shown(a.take::<Point>() * a.take::<f64>()),
+        4 => shown(a.take::<Point>().ortho()),
+        5 => shown(a.take::<Point>().dot(&a.take())),
+        6 => shown(a.take::<Point>().cross(&a.take())),
+        7 => shown(Point::new(a.take(), a.take())),
+        10 => shown(a.take::<Interval>().is_empty()),
+        11 => shown(a.take::<Interval>().contains(a.take())),
+        12 => shown(a.take::<Interval>().contains_interval(&a.take())),
+        13 => shown(a.take::<Interval>().intersects(&a.take())),
+        14 => shown(a.take::<Interval>().union(&a.take())),
+        15 => shown(a.take::<Interval>().intersection(&a.take())),
+        17 => shown(Interval::from_point_pair(a.take(), a.take())),
+        19 => shown(Ok(Rect::empty())),
+        20 => shown(Rect::from_points(a.take(), a.take())),
+        21 => shown(a.take::<Rect>().vertices()),
+        22 => shown(a.take::<Rect>().vertex_ij(a.take(), a.take())),
+        23 => shown(lo_and_hi(a.take())),
+        24 => shown(a.take::<Rect>().is_empty()),
+        25 => shown(a.take::<Rect>().contains_point(&a.take())),
+        26 => shown(a.take::<Rect>().contains(&a.take())),
+        27 => shown(a.take::<Rect>().intersects(&a.take())),
+        28 => shown(a.take::<Rect>().union(&a.take())),
+        29 => shown(a.take::<Rect>().intersection(&a.take())),
+        30 => shown(edge_clipping::interpolate(a.take(), a.take(), a.take(), a.take(), a.take())),
+        31 => shown(edge_clipping::update_endpoint(a.take(), a.take(), a.take())),
+        32 => shown(edge_clipping::clip_bound_axis(
+            a.take(),
+            a.take(),
+            a.take(),
+            a.take(),
+            a.take(),
+            a.take(),
+            a.take(),
+            a.take(),
+        )),
+        33 => shown(edge_clipping::clip_edge_bound(a.take(), a.take(), a.take(), a.take())),
+        34 => shown(edge_clipping::clip_edge(a.take(), a.take(), a.take())),
+        35 => shown(edge_clipping::edge_intersects_rect(a.take(), a.take(), &a.take())),
+        40 => shown(stuv::face(&a.take())),
+        41 => shown(stuv::xyz_to_face_uv(&a.take())),
+        42 => shown(stuv::face_xyz_to_uv(a.take(), &a.take())),
+        43 => shown(stuv::face_uv_to_xyz(a.take(), a.take(), a.take())),
+        44 => shown(stuv::face_xyz_to_uvw(a.take(), &a.take())),
+        45 => shown(stuv::uvw_face(a.take(), a.take(), a.take())),
+        46 => shown(stuv::u_axis(a.take())),
+        47 => shown(stuv::v_axis(a.take())),
+        48 => shown(stuv::unorm(a.take(), a.take())),
+        49 => shown(stuv::vnorm(a.take(), a.take())),
+        50 => shown(edge_clipping::sum_equal(a.take(), a.take(), a.take())),
+        51 => shown(edge_clipping::intersects_face(a.take())),
+        52 => shown(edge_clipping::intersects_opposite_edges(a.take())),
+        53 => shown(edge_clipping::exit_axis(a.take())),
+        54 => shown(edge_clipping::exit_point(a.take(), a.take())),
+        55 => shown(edge_clipping::next_face(a.take(), a.take(), a.take(), a.take(), a.take())),
+        _ => return None,
+    })
+}
+
+fn lo_and_hi(rect: Rect) -> Result<(Point, Point), Refusal> {
+    Ok((rect.lo()?, rect.hi()?))
+}
+
+/// `0` and a group of 16 digits for each word, or the number alone.
+fn shown(answer: Result<impl Shown, Refusal>) -> String {
+    match answer {
+        Ok(value) => value.words().iter().fold("0".into(), |line, word| format!("{line} {word:016x}")),
+        Err(refusal) => refusal.number().to_string(),
+    }
+}
+
+/// The walk's answer, and its buffer after it: every byte was a5 (hex).
+fn walk(a: &mut Arguments) -> (Result<usize, Refusal>, Vec<u8>) {
+    let (face, from, target, to, normal) = (a.take(), a.take(), a.take(), a.take(), a.take());
+    let mut bytes = vec![0xa5; a.take::<u64>().min(400) as usize];
+    (edge_clipping::walk(face, from, target, to, normal, &mut bytes), bytes)
+}
+
+fn record(segment: &FaceSegment) -> Vec<u8> {
+    let floats = [segment.a.x, segment.a.y, segment.b.x, segment.b.y];
+    let floats = floats.iter().flat_map(|float| float.to_le_bytes());
+    [segment.face, 0, 0, 0, 0, 0, 0, 0].into_iter().chain(floats).collect()
+}
