@@ -235,7 +235,8 @@ umb_yes_no umb_intersects_face(umb_vector n);
 umb_yes_no umb_intersects_opposite_edges(umb_vector n);
 /* The axis over which the line leaves the face. Of these numbers: 2, 5, 0. */
 umb_axis_answer umb_exit_axis(umb_vector n);
-/* Where it leaves over an axis (UMB_U, or V for any other number). Of these numbers: 2, 5 where the divisor is zero, 0. */
+/* Where it leaves over an axis (UMB_U, or V for any other number, as in umb_next_face). Of these numbers: 2, 5 where
+ * the divisor is zero, 0. */
 umb_uv_answer umb_exit_point(umb_vector n, uint8_t axis);
 /* The face that the line enters there; the target where it passes exactly through a corner that both share. Of these
  * numbers: 4 for face or target, 2, 5, 0. */
