@@ -3,3 +3,4 @@ pub mod Cases
 pub mod Sides
 pub mod Moves
 pub mod Promises
+pub mod Early

@@ -50,16 +50,16 @@ fine-some : (i : Interval) → sidesFine i ≡ true → Some i
 unfolding sidesFine
 fine-some i e = and-parts _ _ e .1
 
-record Good (a b : Point) (w : Rect) : Type 0 where
-  first-some : SomeRect (boxOf a b)
-  first-ends : EndsRect (boxOf a b)
-  window-some : SomeRect w
-  ax : finite (a .x) ≡ true
-  ay : finite (a .y) ≡ true
-  bx : finite (b .x) ≡ true
-  by : finite (b .y) ≡ true
+pub record Good (a b : Point) (w : Rect) : Type 0 where
+  pub first-some : SomeRect (boxOf a b)
+  pub first-ends : EndsRect (boxOf a b)
+  pub window-some : SomeRect w
+  pub ax : finite (a .x) ≡ true
+  pub ay : finite (a .y) ≡ true
+  pub bx : finite (b .x) ≡ true
+  pub by : finite (b .y) ≡ true
 
-good : (a b : Point) (w : Rect) → Fine a b w → Good a b w
+pub good : (a b : Point) (w : Rect) → Fine a b w → Good a b w
 unfolding windowFine
 good a b w e =
     let (p, q) = fine-parts _ _ e in

@@ -39,7 +39,7 @@ pub fn clip_edge_bound(a: Point, b: Point, clip: Rect, bound: Rect) -> BoxCut
     }
 }
 
-fn slope_is_negative(a: Point, b: Point) -> bool
+pub fn slope_is_negative(a: Point, b: Point) -> bool
     ensures { λ r. ⌜ r ≡ negativeSlope a b ⌝ }
 {
     (b.x < a.x) != (b.y < a.y)
@@ -79,7 +79,7 @@ pub fn clip_bound_axis(
 }
 
 // One side of the window, where the bound reaches past it.
-fn clip_side(
+pub fn clip_side(
     high: bool,
     a0: f64,
     b0: f64,
@@ -123,11 +123,22 @@ fn move_other(this: Interval, moved: Moved) -> AxisCut
 pub fn update_endpoint(bound: Interval, high_endpoint: bool, value: f64) -> Moved
     ensures { λ r. ⌜ r ≡ movedEnd bound «high_endpoint» value ⌝ }
 {
-    if is_inward(high_endpoint, value, bound.at_end(!high_endpoint)) {
+    if high_endpoint {
+        move_end(bound, true, value)
+    } else {
+        move_end(bound, false, value)
+    }
+}
+
+// The same for an end that its caller names, so that the compiler makes the tests of each.
+fn move_end(bound: Interval, high: bool, value: f64) -> Moved
+    ensures { λ r. ⌜ r ≡ movedEnd bound high value ⌝ }
+{
+    if is_inward(high, value, bound.at_end(!high)) {
         return Moved::Lost;
     }
-    if is_inward(high_endpoint, value, bound.at_end(high_endpoint)) {
-        return Moved::To(with_end(bound, high_endpoint, value));
+    if is_inward(high, value, bound.at_end(high)) {
+        return Moved::To(with_end(bound, high, value));
     }
     Moved::To(bound)
 }

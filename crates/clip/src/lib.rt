@@ -3,9 +3,11 @@
 // The functions here are the entries: each tests in document 01's order (2, then 3), answers its
 // number, and has `compute` do the rest, which takes any float and refuses nothing.
 pub mod compute;
+pub mod edge;
 pub mod refuse;
 
 ghost use mathlib.Core.Path.{_≡_};
+ghost use Rattle.clip.specs.Early.{second, whole};
 ghost use Rattle.clip.specs.Answers.{ends, endAnswer, axesAnswer, axisAnswer, boundAnswer, edgeAnswer, clipped, endOrRefusal, axisOrRefusal, boundOrRefusal, meetsOrRefusal, valueOrRefusal};
 use answer::DONE;
 use answer::MISSED;
@@ -51,8 +53,14 @@ pub fn clip_edge(a: Point, b: Point, window: Rect) -> Clipped
     if number != DONE {
         return Clipped::Refused(number);
     }
+    if edge::is_inside(a, b, window) {
+        return Clipped::Kept(Segment::whole(a, b));
+    }
     let first = Rect::from_points(a, b);
-    edge_answer(a, b, compute::clip_edge_bound(a, b, window, first))
+    if edge::is_apart(first, window) {
+        return Clipped::Missed;
+    }
+    edge_answer(a, b, edge::clip_first_box(a, b, window, first))
 }
 
 // Whether the edge from a to b meets the window.
@@ -176,6 +184,18 @@ impl AxesAnswer {
 }
 
 impl Segment {
+    // The edge as it is, but for a coordinate of b that compares equal to a's: a's stands there.
+    fn whole(a: Point, b: Point) -> Self
+        ensures { λ s. ⌜ s ≡ whole a b ⌝ }
+    {
+        Segment {
+            ax: a.x,
+            ay: a.y,
+            bx: second(a.x, b.x),
+            by: second(a.y, b.y),
+        }
+    }
+
     // The two points of a kept box: on each axis a takes the high end where a > b, else the low,
     // and b takes the other.
     fn ends(a: Point, b: Point, r: Rect) -> Self
@@ -188,4 +208,10 @@ impl Segment {
             by: r.y.at_end(!(b.y < a.y)),
         }
     }
+}
+
+fn second(a: f64, b: f64) -> f64
+    ensures { λ r. ⌜ r ≡ second a b ⌝ }
+{
+    if a == b { a } else { b }
 }

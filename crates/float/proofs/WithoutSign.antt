@@ -1,80 +1,79 @@
--- The magnitude by comparisons: what each of its three branches gives.
-use mathlib.Core.Path.{_≡_, refl, sym, ap, _∙_}
-use Prim.Native.Nat.{ℕ, zero, suc, _+_, _*_, _^_, _≤_, _<_}
-use native.Mathlib.Nat.{mul-pos, mul-one, one-mul, zero-lt-suc}
+-- The magnitude by one comparison and one difference, which is exact: what each of the two branches gives.
+use mathlib.Core.Path.{_≡_, refl, sym, subst, _∙_}
+use mathlib.Core.Bool.{Bool, true, false, not, _||_, true≢false}
+use Prim.Native.Nat.{ℕ, zero, suc, _-_, _+_, _^_, _≤_}
+use native.Mathlib.Nat.{zero-add}
 use native.Mathlib.Omega.{arith}
-use mathlib.Core.Bool.{Bool, true, false, _&&_, _||_, Bool·beq, true≢false}
-use lib.IntN.{ℤ, pos, negsuc}
-use lib.Dec.{T, eqb, eqb→eq}
-use lib.Pow.{pow-lt}
-use borrow.Author.Tests.{ltb-true, ltb-false, eqb-true, eq-eqb}
-use lib.Ieee.{Float, nan, inf, fin, Format, binary64, up, down, neg, lt, eq, fits, ofBits}
-use lib.Ieee.Fits.{up-pos}
-use Rattle.float.specs.Float.{magnitudeOf}
+use lib.Dec.{T}
+use lib.Pow.{pow-pos}
+use borrow.Author.Tests.{leb-true, lt-ltb}
+use lib.Ieee.{Float, nan, inf, fin, Format, binary64, low, below, level, round, sum, add, neg, sub, le, lt, eq, fits, ofBits}
+use lib.Ieee.Fits.{sub-fits}
+use Rattle.float.specs.Float.{finite, magnitudeOf, signBit}
+use Rattle.float.specs.Exact.{mag, Value}
+use Rattle.float.proofs.Values.{Is, held, le-is, sub-is, alike, unlike-ge}
+use Rattle.float.proofs.Rounded.{round-fix}
+use Rattle.float.proofs.Plain.{drop-sign, le-units}
+use Rattle.float.proofs.Unique.{same}
+use Rattle.float.proofs.Zero.{nought, nought-is}
 
-pub zero-is : ofBits binary64 0 ≡ fin false 0 (pos 0)
+-- what is not more than 0 is 0
+none : (f : Format) (n : ℕ) → n ≤ 0 → round f false (0 - n) (2 ^ low f) ≡ round f false n (2 ^ low f)
+none f zero h = refl
+none f (suc n) h = absurd (omega arith)
+
+-- a negative value is at most 0
+below-nought : (n : ℕ) → (below true n false 0 || level true n false 0) ≡ true
+below-nought zero = refl
+below-nought (suc n) = rw (lt-ltb 0 (suc n + 0) (omega arith))
+
+module _ (f : Format) (x : Float) (v : Value f x) where
+  -- 0 - x is rounded once, from the size of x; where x is not negative that size is 0
+  once : le x nought ≡ true → sub f nought x ≡ round f false (mag f x) (2 ^ low f)
+  once e = sub-is (nought-is f) (held v .is-own) ∙ by-sign (signBit x) (held v .is-own)
+    where
+      by-sign : (s : Bool) → Is f x s (mag f x) → sum f false 0 (not s) (mag f x) (2 ^ low f) ≡ round f false (mag f x) (2 ^ low f)
+      by-sign true p = alike f false 0 (mag f x) (2 ^ low f) ∙ (rw zero-add)
+      by-sign false p = let n : mag f x ≤ 0 = leb-true _ _ (sym (le-units p (nought-is f)) ∙ e) in unlike-ge f false (2 ^ low f) n ∙ none f (mag f x) n
+
+  -- and that size is held as it is
+  difference : le x nought ≡ true → T (fits f (magnitudeOf x)) → sub f nought x ≡ magnitudeOf x
+  difference e t =
+      let h = held v in
+      let r : Is f (round f false (mag f x) (2 ^ low f)) false (mag f x) = round-fix (h .mag-rep) (h .mag-under) false (mag f x) (2 ^ low f) (pow-pos (low f)) refl in
+      same (sub-fits f nought x) t (rw (once e) r) (drop-sign (h .is-own))
+
+  not-negative : le x nought ≡ false → signBit x ≡ false
+  not-negative e = by-sign (signBit x) (held v .is-own)
+    where
+      by-sign : (s : Bool) → Is f x s (mag f x) → s ≡ false
+      by-sign true p = absurd (true≢false (sym (below-nought (mag f x)) ∙ sym (le-is p (nought-is f)) ∙ e))
+      by-sign false p = refl
+
+zero-is : ofBits binary64 0 ≡ nought
 unfolding ofBits
 zero-is = refl
 
--- a product that is no more than 0
-no-mul : (m : ℕ) (e : ℤ) → suc m * up e * 1 ≡ 0 → ⊥
-no-mul m e h = let p : 0 < suc m * up e * 1 = mul-pos (mul-pos (zero-lt-suc m) (up-pos e)) (zero-lt-suc 0) in omega arith
-
-one-of : (k : ℕ) → 2 ^ k ≡ 1 → k ≡ 0
-one-of zero h = refl
-one-of (suc k) h = let p : 2 ^ 0 < 2 ^ suc k = pow-lt (zero-lt-suc k) in omega arith
-
--- a zero that fits is written in one way
-zero-form : (f : Format) (s : Bool) (e : ℤ) → T (fits f (fin s 0 e)) → e ≡ pos 0
+same-fits : (f : Format) (s t : Bool) (m : ℕ) (e : _) → fits f (fin s m e) ≡ fits f (fin t m e)
 unfolding fits
-zero-form f s (pos k) t = ap pos (one-of k (sym (mul-one (2 ^ k)) ∙ eqb→eq (2 ^ k * 1) 1 t))
-zero-form f s (negsuc k) t = absurd (go (one-of (suc k) (sym (one-mul (2 ^ suc k)) ∙ eqb→eq (1 * 2 ^ suc k) 1 t)))
-  where
-    go : suc k ≡ 0 → ⊥
-    go h = omega arith
+same-fits f s t zero e = refl
+same-fits f s t (suc m) e = refl
 
-none : (a d : ℕ) → a < 0 * 1 * d → ⊥
-none a d h = omega arith
+value : (s : Bool) (m : ℕ) (e : _) → fits binary64 (fin s m e) ≡ true → Value binary64 (fin s m e)
+value s m e t = record { is-finite = unfold finite in refl; held = t }
 
-nought : (a d : ℕ) → a + 0 * 1 * d ≤ 0 → a ≡ 0 * 1 * d
-nought a d h = omega arith
+pub up-to-zero : (x : Float) → fits binary64 x ≡ true → le x (ofBits binary64 0) ≡ true → sub binary64 (ofBits binary64 0) x ≡ magnitudeOf x
+up-to-zero nan t h = unfold sub add neg ofBits magnitudeOf in refl
+up-to-zero (inf true) t h = unfold sub add neg ofBits magnitudeOf in refl
+up-to-zero (inf false) t h = absurd (true≢false (sym (unfold le lt eq ofBits in h)))
+up-to-zero (fin s m e) t h =
+    rw zero-is (difference binary64 (fin s m e) (value s m e t) (subst (λ (z : Float). le (fin s m e) z ≡ true) zero-is h) (unfold magnitudeOf in subst T (sym (same-fits binary64 false s m e ∙ t)) tt))
 
-nought' : (a d : ℕ) → a + 0 * 1 * d ≤ 0 → a ≡ 0
-nought' a d h = omega arith
-
-flat : (a d : ℕ) → a ≡ 0 * 1 * d → a ≡ 0
-flat a d h = omega arith
-
-first : (a b : Bool) → (a && b) ≡ true → a ≡ true
-first true b h = refl
-first false b h = h
-
-pub below-zero : (x : Float) → lt x (ofBits binary64 0) ≡ true → neg x ≡ magnitudeOf x
-unfolding lt neg magnitudeOf ofBits
-below-zero nan h = refl
-below-zero (inf true) h = refl
-below-zero (inf false) h = absurd (true≢false (sym h))
-below-zero (fin true m e) h = refl
-below-zero (fin false m e) h = absurd (none (m * up e * 1) (down e) (ltb-true (m * up e * 1) (0 * 1 * down e) h))
-
-pub at-zero : (x : Float) → T (fits binary64 x) → eq x (ofBits binary64 0) ≡ true → ofBits binary64 0 ≡ magnitudeOf x
-unfolding eq magnitudeOf ofBits
-at-zero nan t h = absurd (true≢false (sym h))
-at-zero (inf s) t h = absurd (true≢false (sym h))
-at-zero (fin s zero e) t h = ap (λ (z : ℤ). fin false 0 z) (sym (zero-form binary64 s e t))
-at-zero (fin s (suc m) e) t h =
-    let a = suc m * up e * 1 in
-    absurd (no-mul m e (flat a (down e) (eqb-true a (0 * 1 * down e) (first (eqb a (0 * 1 * down e)) (Bool·beq s false || eqb a 0) h))))
-
-pub above-zero : (x : Float) → lt x (ofBits binary64 0) ≡ false → eq x (ofBits binary64 0) ≡ false → x ≡ magnitudeOf x
-unfolding lt eq magnitudeOf ofBits
-above-zero nan h k = refl
-above-zero (inf true) h k = absurd (true≢false h)
-above-zero (inf false) h k = refl
-above-zero (fin false m e) h k = refl
-above-zero (fin true m e) h k =
-    let a = m * up e * 1 in
-    let l : a + 0 * 1 * down e ≤ 0 = ltb-false 0 (a + 0 * 1 * down e) h in
-    let p : eqb a (0 * 1 * down e) ≡ true = eq-eqb a (0 * 1 * down e) (nought a (down e) l) in
-    let q : eqb a 0 ≡ true = eq-eqb a 0 (nought' a (down e) l) in
-    absurd (true≢false (sym (ap (λ (z : Bool). z && (false || eqb a 0)) p ∙ ap (λ (z : Bool). true && (false || z)) q) ∙ k))
+pub above-zero : (x : Float) → fits binary64 x ≡ true → le x (ofBits binary64 0) ≡ false → x ≡ magnitudeOf x
+unfolding magnitudeOf
+above-zero nan t h = refl
+above-zero (inf true) t h = absurd (true≢false (unfold le lt eq ofBits in h))
+above-zero (inf false) t h = refl
+above-zero (fin s m e) t h =
+    let p : s ≡ false = unfold signBit in not-negative binary64 (fin s m e) (value s m e t) (subst (λ (z : Float). le (fin s m e) z ≡ false) zero-is h) in
+    rw p

@@ -14,7 +14,7 @@ use Rattle.float.proofs.Values.{Is, of, lt-is, eq-is}
 abbrev pub nought : Float
 nought = fin false 0 (pos 0)
 
-nought-is : (f : Format) → Is f nought false 0
+pub nought-is : (f : Format) → Is f nought false 0
 nought-is f = of (zero-mul (2 ^ low f))
 
 module _ {f : Format} {x : Float} {s : Bool} {n : ℕ} (p : Is f x s n) where

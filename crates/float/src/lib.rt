@@ -14,13 +14,7 @@ pub fn is_finite(x: f64) -> bool
 pub fn magnitude(x: f64) -> f64
     ensures { λ r. ⌜ r ≡ magnitudeOf x ⌝ }
 {
-    if x < 0.0 {
-        -x
-    } else if x == 0.0 {
-        0.0
-    } else {
-        x
-    }
+    if x <= 0.0 { 0.0 - x } else { x }
 }
 
 // Whether the sign bit is set, also of a zero; no of a NaN.

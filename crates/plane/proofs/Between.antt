@@ -1,20 +1,30 @@
 -- The interval of two numbers: both lie in it, its ends are among them, and it is the least that has both.
-use mathlib.Core.Path.{_≡_, refl, sym, _∙_}
-use mathlib.Core.Bool.{Bool, true, false, not, _&&_, false≢true}
+use mathlib.Core.Path.{_≡_, refl, sym, subst, _∙_}
+use mathlib.Core.Bool.{Bool, true, false, not, _&&_, true≢false, false≢true}
 use mathlib.Core.Logic.{_⊎_, inl, inr}
 use lib.Ieee.{Float, lt, le, eq}
 use Rattle.float.specs.Choice.{when_then_else_}
-use Rattle.float.proofs.Choice.{else-is, cases}
-use Rattle.float.proofs.Order.{Num, le-num, le-refl, lt-le, not-lt, le-not-lt, le-eq, eq-both}
-use Rattle.plane.specs.Interval.{from_to_, between, endOf}
+use Rattle.float.proofs.Choice.{then-is, else-is, cases}
+use Rattle.float.proofs.Order.{Num, le-num, le-refl, lt-le, not-lt, lt-not-le, le-not-lt, le-eq, eq-both}
+use Rattle.plane.specs.Interval.{from_to_, lesser, greater, between, endOf}
 use Rattle.plane.specs.Within.{In, Part}
 use Rattle.plane.specs.declared.interval.Interval.{Interval}
 use Rattle.plane.proofs.Parts.{in-some}
 
+-- b < a, a < b, or neither; never both
+order : (P : Bool → Bool → Type 0) (a b : Float) → (lt b a ≡ true → P true false) → (lt a b ≡ true → P false true) → (lt b a ≡ false → lt a b ≡ false → P false false) → P (lt b a) (lt a b)
+order P a b f g h = go (lt b a) (lt a b) refl refl
+  where
+    go : (p q : Bool) → lt b a ≡ p → lt a b ≡ q → P p q
+    go true true e k = absurd (true≢false (sym k ∙ le-not-lt b a (lt-le b a e)))
+    go true false e k = f e
+    go false true e k = g k
+    go false false e k = h e k
+
 -- what holds of each of the three cases of `between` holds of it
 three : (P : Interval → Type 0) (a b : Float) → (lt b a ≡ true → P (from b to a)) → (lt a b ≡ true → P (from a to b)) → (lt b a ≡ false → lt a b ≡ false → P (from a to a)) → P (between a b)
-unfolding between
-three P a b f g h = cases P (lt b a) (from b to a) _ f (λ p. cases P (lt a b) (from a to b) (from a to a) g (λ q. h p q))
+unfolding between lesser greater when_then_else_
+three P a b f g h = order (λ p q. P (from (when p then b else a) to (when q then b else a))) a b f g h
 
 pub between-in : (a b : Float) → Num a → Num b → In (between a b) a × In (between a b) b
 between-in a b p q =
@@ -42,31 +52,29 @@ between-num a b = three (λ (i : Interval). Num (i .hi) → Num (i .lo)) a b (λ
 
 -- where they compare equal the first is both ends
 pub between-equal : (a b : Float) → eq a b ≡ true → between a b ≡ from a to a
-unfolding between
 between-equal a b e = go (le a b) refl (sym (eq-both a b) ∙ e)
   where
+    none : {A : Type 0} (x y : Float) → le y x ≡ true → lt x y ≡ true → A
+    none x y p q = absurd (true≢false (sym q ∙ le-not-lt y x p))
+
     go : (p : Bool) → le a b ≡ p → (p && le b a) ≡ true → between a b ≡ from a to a
-    go true f h = sym (else-is _ _ _ _ (le-not-lt a b f) (else-is _ _ _ _ (le-not-lt b a h) refl))
+    go true f h = three (λ (i : Interval). i ≡ from a to a) a b (none b a f) (none a b h) (λ p q. refl)
     go false f h = absurd (false≢true h)
 
 -- ---- the ends that a and b take: a's is a itself; b's is b, or where they compare equal, a
 pub a-end : (a b : Float) → endOf (between a b) (lt b a) ≡ a
-unfolding between endOf when_then_else_
-a-end a b = go (lt b a) (lt a b)
-  where
-    go : (p q : Bool) → (when p then (when p then from b to a else when q then from a to b else from a to a) .hi else (when p then from b to a else when q then from a to b else from a to a) .lo) ≡ a
-    go true q = refl
-    go false true = refl
-    go false false = refl
+unfolding between lesser greater endOf when_then_else_
+a-end a b = order (λ p q. (when p then (when q then b else a) else (when p then b else a)) ≡ a) a b (λ e. refl) (λ e. refl) (λ e f. refl)
+
+pub second-end : (a b : Float) → Num a → Num b → (when eq a b then a else b) ≡ endOf (between a b) (not (lt b a))
+unfolding between lesser greater endOf when_then_else_
+second-end a b m n =
+    order (λ p q. (when eq a b then a else b) ≡ (when not p then (when q then b else a) else (when p then b else a))) a b
+    (λ e. sym (else-is _ _ _ _ (eq-both a b ∙ (rw (lt-not-le b a e))) refl))
+    (λ e. sym (else-is _ _ _ _ (eq-both a b ∙ (rw (lt-le a b e, lt-not-le a b e))) refl))
+    (λ e f. sym (then-is _ _ _ _ (le-eq a b (not-lt b a n m e) (not-lt a b m n f)) refl))
 
 pub b-end : (a b : Float) → Num a → Num b → (endOf (between a b) (not (lt b a)) ≡ b) ⊎ ((endOf (between a b) (not (lt b a)) ≡ a) × (eq a b ≡ true))
-unfolding between endOf when_then_else_
-b-end a b m n = go (lt b a) (lt a b) refl refl
-  where
-    end : Bool → Bool → Float
-    end p q = when not p then (when p then from b to a else when q then from a to b else from a to a) .hi else (when p then from b to a else when q then from a to b else from a to a) .lo
-
-    go : (p q : Bool) → lt b a ≡ p → lt a b ≡ q → (end p q ≡ b) ⊎ ((end p q ≡ a) × (eq a b ≡ true))
-    go true q e f = inl refl
-    go false true e f = inl refl
-    go false false e f = inr (refl, le-eq a b (not-lt b a n m e) (not-lt a b m n f))
+b-end a b m n =
+    let P : Float → Type 0 = λ v. (v ≡ b) ⊎ ((v ≡ a) × (eq a b ≡ true)) in
+    subst P (second-end a b m n) (cases P (eq a b) a b (λ e. inr (refl, e)) (λ e. inl refl))

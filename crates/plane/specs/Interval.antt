@@ -49,7 +49,7 @@ intersectionOf i j = from greater (i .lo) (j .lo) to lesser (i .hi) (j .hi)
 
 -- the interval of two numbers, the first kept where they compare equal
 unfoldable pub between : Float → Float → Interval
-between a b = when lt b a then from b to a else when lt a b then from a to b else from a to a
+between a b = from lesser a b to greater a b
 
 -- the high end or the low
 unfoldable pub endOf : Interval → Bool → Float

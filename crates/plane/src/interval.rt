@@ -91,13 +91,10 @@ impl Interval {
     pub fn from_point_pair(a: f64, b: f64) -> Self
         ensures { λ r. ⌜ r ≡ between a b ⌝ }
     {
-        if b < a {
-            return Interval { lo: b, hi: a };
+        Interval {
+            lo: min(a, b),
+            hi: max(a, b),
         }
-        if a < b {
-            return Interval { lo: a, hi: b };
-        }
-        Interval { lo: a, hi: a }
     }
 
     pub fn is_empty(self) -> bool
