@@ -1,3 +1,4 @@
--- Words in bytes, and bytes in a lent buffer.
+-- Words in bytes, bytes in a lent buffer, and texts made of records.
 pub mod Bytes
 pub mod Digits
+pub mod Text
