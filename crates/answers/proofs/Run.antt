@@ -1,12 +1,10 @@
--- Lines, how long they are, and how one after the other makes the text.
-use Prim.Native.Nat.{ℕ, zero, suc, _+_, _-_, _*_, _/_, _%_, _≤_, _<_}
+-- Lines: their parts stored one after the other.
+use Prim.Native.Nat.{ℕ, zero, suc, _+_, _-_, _*_, _≤_, _<_}
 use native.Mathlib.Omega.{arith}
 use mathlib.Core.Path.{_≡_, refl, sym, ap, _∙_}
 use mathlib.Core.List.{List, [], _∷_, _++_}
-use lib.Dec.{leb}
-use lib.ListN.{length, set, getD, take, drop, length-append}
-use Rattle.float.specs.Choice.{when_then_else_}
-use Rattle.float.proofs.Choice.{when-eq, when-ne, when-le, when-gt}
+use lib.ListN.{length, set, getD, length-append}
+use Rattle.float.proofs.Choice.{when-eq, when-ne}
 use Rattle.buffer.specs.Bytes.{stored, placed}
 use Rattle.buffer.specs.Digits.{group}
 use Rattle.buffer.proofs.Stored.{stored-join, placed-then, length-group}
@@ -15,7 +13,12 @@ use Rattle.answers.specs.Request.{wordOf}
 use Rattle.answers.specs.Table.{replyOf}
 use Rattle.answers.specs.Walked.{walkLine}
 use Rattle.answers.specs.Number.{numberText}
-use Rattle.answers.specs.Line.{groupsFrom, atMostEight, replyLine, lineOf, requestAt, tornEnd, linesFrom, textOf, room}
+use Rattle.answers.specs.Line.{groupsFrom, atMostEight, replyLine, lineOf}
+
+-- ---- the number 255
+pub three-stored : (xs : List ℕ) (to a b c : ℕ) → set (set (set xs to a) (to + 1) b) (to + 2) c ≡ stored xs to (a ∷ b ∷ c ∷ [])
+unfolding stored
+three-stored xs to a b c = let e : to + 2 ≡ to + 1 + 1 = omega arith in rw e
 
 -- ---- groups
 pub length-groups : (ws : List ℕ) (i k : ℕ) → length (groupsFrom ws i k) ≡ 17 * k
@@ -26,6 +29,12 @@ length-groups ws i (suc k) = omega (arith, length-append (group (getD ws i 0)) (
 groups-step : (ws : List ℕ) (i k : ℕ) → 0 < k → groupsFrom ws i k ≡ group (getD ws i 0) ++ groupsFrom ws (i + 1) (k - 1)
 unfolding groupsFrom
 groups-step ws i (suc k) h = let e : suc k - 1 ≡ k = omega arith in rw e
+
+pub groups-start : (ws xs : List ℕ) (n to : ℕ) → stored xs (to + 17 * 0) (groupsFrom ws 0 (n - 0)) ≡ stored xs to (groupsFrom ws 0 n)
+groups-start ws xs n to =
+    let e : n - 0 ≡ n = omega arith in
+    let f : to + 17 * 0 ≡ to = omega arith in
+    rw (e, f)
 
 -- one more group of those that are left at i
 pub group-stored : (ws xs ys whole : List ℕ) (n i p q : ℕ) → i < n → ys ≡ placed xs p (group (getD ws i 0)) → p + 17 ≤ length xs → q ≡ p + 17
@@ -54,73 +63,6 @@ reply-stored r xs ys zs to next count ec en ey ez =
     let a : stored zs (next + 17 * count) (10 ∷ []) ≡ stored ys next (gs ++ (10 ∷ [])) = rw (ez, l) (stored-join ys next gs (10 ∷ [])) in
     let b : stored ys next (gs ++ (10 ∷ [])) ≡ stored xs to (numberText (r .number) ++ (gs ++ (10 ∷ []))) = rw (ey, en) (stored-join xs to (numberText (r .number)) (gs ++ (10 ∷ []))) in
     (omega (arith, length-reply r), rw (← ec) (a ∙ b))
-
--- ---- the lines one by one
-lines-step : (s : List ℕ) (p k : ℕ) → 0 < k → linesFrom k s p ≡ lineOf (requestAt s p) ++ linesFrom (k - 1) s (p + 192)
-unfolding linesFrom
-lines-step s p (suc k) h = let e : suc k - 1 ≡ k = omega arith in rw e
-
--- n - i lines are left at i: one more is stored
-module _ (s : List ℕ) (n i to next : ℕ) (q : List ℕ) (h : i < n) (is : q ≡ requestAt s (i * 192)) (e : next ≡ to + length (lineOf q)) where
-  left : linesFrom (n - i) s (i * 192) ≡ lineOf q ++ linesFrom (n - (i + 1)) s ((i + 1) * 192)
-  left =
-      let p : i * 192 + 192 ≡ (i + 1) * 192 = omega arith in
-      let m : n - i - 1 ≡ n - (i + 1) = omega arith in
-      rw (← p, ← m, is) (lines-step s (i * 192) (n - i) (omega arith))
-
-  pub line-stored : (xs ys whole : List ℕ) → ys ≡ stored xs to (lineOf q) → stored xs to (linesFrom (n - i) s (i * 192)) ≡ whole → stored ys next (linesFrom (n - (i + 1)) s ((i + 1) * 192)) ≡ whole
-  line-stored xs ys whole f g = rw (e, f) (stored-join xs to (lineOf q) _ ∙ ap (stored xs to) (sym left) ∙ g)
-
-  pub line-counted : (total : ℕ) → to + length (linesFrom (n - i) s (i * 192)) ≡ total → next + length (linesFrom (n - (i + 1)) s ((i + 1) * 192)) ≡ total
-  line-counted total g = let l = ap length left ∙ length-append (lineOf q) _ in omega arith
-
--- no line is left: what follows is the torn end
-lines-none : (s : List ℕ) (n i : ℕ) → n ≤ i → linesFrom (n - i) s (i * 192) ≡ tornEnd s
-unfolding linesFrom
-lines-none s n i h = let e : n - i ≡ 0 = omega arith in rw e
-
-pub torn-no : (s : List ℕ) → length s % 192 ≡ 0 → [] ≡ tornEnd s
-unfolding tornEnd
-torn-no s h = when-eq _ _ _ _ _ h refl
-
-pub torn-yes : (s : List ℕ) → (length s % 192 ≡ 0 → ⊥) → 57 ∷ 10 ∷ [] ≡ tornEnd s
-unfolding tornEnd
-torn-yes s h = when-ne _ _ _ _ _ h refl
-
--- ---- the whole text
-pub text-start : (s : List ℕ) → linesFrom (length s / 192 - 0) s 0 ≡ textOf s
-unfolding textOf
-text-start s = let e : length s / 192 - 0 ≡ length s / 192 = omega arith in rw e
-
-pub text-count : (s : List ℕ) → 0 + length (linesFrom (length s / 192 - 0) s 0) ≡ length (textOf s)
-text-count s = omega (arith, ap length (text-start s))
-
-pub text-none : (s xs : List ℕ) → length xs < room s
-    → (0 ≡ (when leb (room s) (length xs) then length (textOf s) else 0)) × ((xs ≡ (when leb (room s) (length xs) then stored xs 0 (textOf s) else xs)) × (0 ≤ length xs))
-text-none s xs h = (when-gt _ _ _ _ _ h refl, (when-gt _ _ _ _ _ h refl, omega arith))
-
--- after the last line comes the torn end, e
-pub text-end : (s xs ys zs e : List ℕ) (n i to next : ℕ) → room s ≤ length xs → n ≤ i → e ≡ tornEnd s
-    → stored ys to (linesFrom (n - i) s (i * 192)) ≡ stored xs 0 (textOf s) → to + length (linesFrom (n - i) s (i * 192)) ≡ length (textOf s)
-    → zs ≡ stored ys to e → next ≡ to + length e → next ≤ length zs
-    → (next ≡ (when leb (room s) (length xs) then length (textOf s) else 0)) × ((zs ≡ (when leb (room s) (length xs) then stored xs 0 (textOf s) else xs)) × (next ≤ length zs))
-text-end s xs ys zs e n i to next r h t f g z w l =
-    let m : linesFrom (n - i) s (i * 192) ≡ e = lines-none s n i h ∙ sym t in
-    (when-le _ _ _ _ _ r (w ∙ ap (λ (o : List ℕ). to + length o) (sym m) ∙ g), (when-le _ _ _ _ _ r (z ∙ ap (stored ys to) (sym m) ∙ f), l))
-
--- the part that is lent for a request
-pub part-is : (s : List ℕ) (i : ℕ) → take (i * 192 + 192 - i * 192) (drop (i * 192) s) ≡ requestAt s (i * 192)
-part-is s i = let e : i * 192 + 192 - i * 192 ≡ 192 = omega arith in rw e
-
-pub groups-start : (ws xs : List ℕ) (n to : ℕ) → stored xs (to + 17 * 0) (groupsFrom ws 0 (n - 0)) ≡ stored xs to (groupsFrom ws 0 n)
-groups-start ws xs n to =
-    let e : n - 0 ≡ n = omega arith in
-    let f : to + 17 * 0 ≡ to = omega arith in
-    rw (e, f)
-
-pub three-stored : (xs : List ℕ) (to a b c : ℕ) → set (set (set xs to a) (to + 1) b) (to + 2) c ≡ stored xs to (a ∷ b ∷ c ∷ [])
-unfolding stored
-three-stored xs to a b c = let e : to + 2 ≡ to + 1 + 1 = omega arith in rw e
 
 -- ---- the line of a request, by its operation
 pub line-walk : (s : List ℕ) (w : ℕ) → w ≡ wordOf s 0 → w ≡ 60 → walkLine s ≡ lineOf s

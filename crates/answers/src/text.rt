@@ -1,10 +1,9 @@
 // The lines of requests.
 ghost use mathlib.Core.Path.{_≡_};
 ghost use Prim.Native.Nat.{_+_, _*_, _≤_};
-ghost use lib.Dec.{leb};
 ghost use lib.ListN.{length};
-ghost use Rattle.float.specs.Choice.{when_then_else_};
 ghost use Rattle.buffer.specs.Bytes.{stored};
+ghost use Rattle.buffer.specs.Text.{written, countWritten};
 ghost use Rattle.answers.specs.Line.{groupsFrom, atMostEight, replyLine, lineOf, textOf, room};
 use crate::number;
 use crate::reply::Reply;
@@ -15,8 +14,8 @@ use crate::walked;
 // The text of the requests in s: a line for each, and one more for a torn end. Gives its length, or 0
 // with out as it was where out has no room: 822 bytes for each request, and 2.
 pub fn put_text(s: &[u8], out: &mut [u8]) -> usize
-    ensures count { λ r. ⌜ r ≡ (when leb (room (now (s .entry))) (length (now (out .entry))) then length (textOf (now (s .entry))) else 0) ⌝ }
-    ensures bytes { λ _. ⌜ now (out .exit) ≡ (when leb (room (now (s .entry))) (length (now (out .entry))) then stored (now (out .entry)) 0 (textOf (now (s .entry))) else now (out .entry)) ⌝ }
+    ensures count { λ r. ⌜ r ≡ countWritten (room (now (s .entry))) (textOf (now (s .entry))) (now (out .entry)) ⌝ }
+    ensures bytes { λ _. ⌜ now (out .exit) ≡ written (room (now (s .entry))) (textOf (now (s .entry))) (now (out .entry)) ⌝ }
     ensures within { λ r. ⌜ r ≤ length (now (out .exit)) ⌝ }
 {
     let n = s.len() / 192;

@@ -78,59 +78,60 @@ module _ (size : ℕ) (line : List ℕ → List ℕ) (torn : List ℕ) where
     pub bytes : stored out to (linesLeft n i s) ≡ stored out₀ 0 (textOf size line torn s)
     pub ends : to + length (linesLeft n i s) ≡ length (textOf size line torn s)
 
-  module _ (longest : ℕ) (s out₀ : List ℕ) where
-    pub writing-starts : roomFor size longest s ≤ length out₀ → Writing longest s out₀ (length s / size) out₀ 0 0
-    unfolding textOf
-    writing-starts h =
-        let e : length s / size - 0 ≡ length s / size = omega arith in
-        let f : 0 * size ≡ 0 = zero-mul size in
-        record {
-          within = omega arith;
-          all = refl;
-          room = h;
-          same = refl;
-          near = omega arith;
-          bytes = rw (e, f);
-          ends = rw (e, f) (omega arith)
-        }
+module _ {size : ℕ} {line : List ℕ → List ℕ} {torn : List ℕ} {longest : ℕ} {s out₀ : List ℕ} where
+  pub writing-starts : roomFor size longest s ≤ length out₀ → Writing size line torn longest s out₀ (length s / size) out₀ 0 0
+  unfolding textOf
+  writing-starts h =
+      let e : length s / size - 0 ≡ length s / size = omega arith in
+      let f : 0 * size ≡ 0 = zero-mul size in
+      record {
+        within = omega arith;
+        all = refl;
+        room = h;
+        same = refl;
+        near = omega arith;
+        bytes = rw (e, f);
+        ends = rw (e, f) (omega arith);
+      }
 
+  module _ {n i to : ℕ} {xs : List ℕ} (w : Writing size line torn longest s out₀ n xs i to) where
     -- one more line, l, of the record that was lent
-    pub line-written : (n : ℕ) (xs ys l : List ℕ) (i to next : ℕ) → Writing longest s out₀ n xs i to → i < n
-        → l ≡ line (take (i * size + size - i * size) (drop (i * size) s)) → next ≡ to + length l → next ≤ to + longest → ys ≡ stored xs to l
-        → Writing longest s out₀ n ys (i + 1) next
-    line-written n xs ys l i to next w h e f g k =
+    pub line-written : {ys l : List ℕ} {next : ℕ} → i < n → l ≡ line (take (i * size + size - i * size) (drop (i * size) s))
+        → next ≡ to + length l → ys ≡ stored xs to l → next ≤ to + longest → Writing size line torn longest s out₀ n ys (i + 1) next
+    line-written {ys} {l} {next} h e f k g =
         let a : (i + 1) * size ≡ i * size + size = add-mul i 1 size ∙ ap (i * size +_) (one-mul size) in
         let b : (i + 1) * longest ≡ i * longest + longest = add-mul i 1 longest ∙ ap (i * longest +_) (one-mul longest) in
         let c : n - (i + 1) ≡ n - i - 1 = omega arith in
         let m : l ≡ line (take size (drop (i * size) s)) = e ∙ rw add-sub-cancel-left in
-        let q : linesLeft n i s ≡ l ++ linesLeft n (i + 1) s = lines-step (drop (i * size) s) (n - i) (omega arith) ∙ rw (a, c, m, drop-drop) in
-        let t = ap length q ∙ length-append l _ in
+        let rest = linesLeft size line torn n (i + 1) s in
+        let q : linesLeft size line torn n i s ≡ l ++ rest = lines-step size line torn (drop (i * size) s) (n - i) (omega arith) ∙ rw (a, c, m, drop-drop) in
+        let t = ap length q ∙ length-append l rest in
         record {
           within = omega arith;
           all = w .all;
           room = w .room;
           same = rw (k, length-stored) (w .same);
           near = omega arith;
-          bytes = rw (k, f) (stored-join xs to l _ ∙ ap (stored xs to) (sym q) ∙ w .bytes);
-          ends = omega arith
+          bytes = rw (k, f) (stored-join xs to l rest ∙ ap (stored xs to) (sym q) ∙ w .bytes);
+          ends = omega arith;
         }
 
-    module _ (n i to : ℕ) (xs : List ℕ) (w : Writing longest s out₀ n xs i to) (h : n ≤ i) where
-      -- no line is left: the line of the last part, e, ends the text
-      ended : (ys e : List ℕ) (next : ℕ) → linesOf size line torn 0 (lastPart size s) ≡ e → ys ≡ stored xs to e → next ≡ to + length e → length e ≤ 2
-          → WrittenIn (roomFor size longest s) (textOf size line torn s) out₀ ys next
-      ended ys e next t z k l =
-          let j : i ≡ length s / size = omega arith in
-          let o : n - i ≡ 0 = omega arith in
-          let m : linesLeft n i s ≡ e = rw (o, j) t in
-          let g : next ≡ length (textOf size line torn s) = k ∙ ap (λ (r : List ℕ). to + length r) (sym m) ∙ w .ends in
-          let b : i * longest ≡ length s / size * longest = rw j in
-          (when-le _ _ _ _ _ (w .room) g, (when-le _ _ _ _ _ (w .room) (z ∙ ap (stored xs to) (sym m) ∙ w .bytes), rw (z, length-stored) (omega arith)))
+    -- no line is left: that of the last part, e, ends the text
+    ended : {ys e : List ℕ} {next : ℕ} → n ≤ i → linesOf size line torn 0 (lastPart size s) ≡ e → next ≡ to + length e → ys ≡ stored xs to e → length e ≤ 2
+        → WrittenIn (roomFor size longest s) (textOf size line torn s) out₀ ys next
+    ended {e = e} h t f k l =
+        let j : i ≡ length s / size = omega arith in
+        let o : n - i ≡ 0 = omega arith in
+        let m : linesLeft size line torn n i s ≡ e = rw (o, j) t in
+        let b : i * longest ≡ length s / size * longest = rw j in (
+          when-le _ _ _ _ _ (w .room) (f ∙ ap (λ (r : List ℕ). to + length r) (sym m) ∙ w .ends),
+          (when-le _ _ _ _ _ (w .room) (k ∙ ap (stored xs to) (sym m) ∙ w .bytes), rw (k, length-stored) (omega arith)),
+        )
 
-      pub whole-written : length s % size ≡ 0 → WrittenIn (roomFor size longest s) (textOf size line torn s) out₀ xs to
-      unfolding stored
-      whole-written t = ended xs [] to (torn-no s t) refl (omega arith) (omega arith)
+    pub whole-written : n ≤ i → length s % size ≡ 0 → WrittenIn (roomFor size longest s) (textOf size line torn s) out₀ xs to
+    unfolding stored
+    whole-written h t = ended h (torn-no size line torn s t) (omega arith) refl (omega arith)
 
-      pub torn-written : (ys : List ℕ) → (length s % size ≡ 0 → ⊥) → length torn ≡ 2 → ys ≡ stored xs to torn
-          → WrittenIn (roomFor size longest s) (textOf size line torn s) out₀ ys (to + 2)
-      torn-written ys t l e = ended ys torn (to + 2) (torn-yes s t) e (omega arith) (omega arith)
+    pub torn-written : {ys : List ℕ} → n ≤ i → (length s % size ≡ 0 → ⊥) → ys ≡ stored xs to torn → length torn ≡ 2
+        → WrittenIn (roomFor size longest s) (textOf size line torn s) out₀ ys (to + 2)
+    torn-written h t k l = ended h (torn-yes size line torn s t) (omega arith) k (omega arith)

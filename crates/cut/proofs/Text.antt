@@ -1,18 +1,16 @@
 -- Lines, how long they are, and how one after the other makes the text.
-use Prim.Native.Nat.{ℕ, suc, _+_, _-_, _*_, _/_, _%_, _≤_, _<_}
+use Prim.Native.Nat.{ℕ, _+_, _≤_, _<_}
 use native.Mathlib.Omega.{arith}
-use mathlib.Core.Path.{_≡_, refl, sym, ap, _∙_}
+use mathlib.Core.Path.{_≡_, refl, _∙_}
 use mathlib.Core.Bool.{Bool}
 use mathlib.Core.List.{List, [], _∷_, _++_}
-use lib.Dec.{leb, eqb}
 use lib.ListN.{length, set, length-set, length-append}
 use lib.Ieee.{binary64, toBits}
-use Rattle.float.specs.Choice.{when_then_else_}
-use Rattle.float.proofs.Choice.{cases, when-eq, when-ne, when-le, when-gt}
-use Rattle.answer.specs.Answer.{beside, torn}
+use Rattle.float.proofs.Choice.{cases}
+use Rattle.answer.specs.Answer.{beside}
 use Rattle.buffer.specs.Bytes.{stored, placed}
 use Rattle.buffer.specs.Digits.{group}
-use Rattle.buffer.proofs.Stored.{stored-join, placed-length, placed-then, length-group}
+use Rattle.buffer.proofs.Stored.{placed-length, placed-then, length-group}
 use Rattle.plane.specs.declared.point.Point.{Point}
 use Rattle.plane.specs.declared.rect.Rect.{Rect}
 use Rattle.clip.specs.declared.compute.BoxCut.{BoxCut}
@@ -22,8 +20,8 @@ use Rattle.clip.specs.declared.Clipped.{Clipped}
 use Rattle.clip.specs.declared.Clipped.the-variants.{Kept, Missed, Refused}
 use Rattle.clip.specs.Refuse.{planeRefusal}
 use Rattle.clip.specs.Answers.{edgeAnswer, clipped, numberOf}
-use Rattle.cut.specs.Record.{recordAt}
-use Rattle.cut.specs.Line.{numberLine, keptLine, lineOf, tornEnd, linesFrom, textOf, room}
+use Rattle.cut.specs.Record.{answerOf}
+use Rattle.cut.specs.Line.{numberLine, keptLine, lineOf}
 
 -- ---- a kept line: a byte, four groups and a byte, stored one after the other
 -- a group that fits, then the rest
@@ -63,10 +61,6 @@ length-line (Kept s) = omega (arith, length-kept s)
 length-line Missed = omega (arith, length-number 1)
 length-line (Refused n) = omega (arith, length-number n)
 
-pub length-torn : (s : List ℕ) → length (tornEnd s) ≤ 2
-unfolding tornEnd
-length-torn s = cases (λ (xs : List ℕ). length xs ≤ 2) (eqb (length s % 64) 0) [] (numberLine torn) (λ h. omega arith) (λ h. omega (arith, length-number 9))
-
 -- ---- the line of each case
 module _ (c : Clipped) where
   pub line-kept : (s : Segment) → c ≡ Kept s → keptLine s ≡ lineOf c
@@ -89,61 +83,8 @@ module _ (c : Clipped) where
 pub line-end : (xs ys : List ℕ) (to n : ℕ) (c : Clipped) (line : List ℕ) → ys ≡ stored xs to line → line ≡ lineOf c → length line ≡ n → (to + n ≡ to + length (lineOf c)) × (ys ≡ stored xs to (lineOf c))
 line-end xs ys to n c line e f l = (rw (← f, l), rw (← f) e)
 
--- ---- the lines one by one
-pub lines-step : (s : List ℕ) (p k : ℕ) → 0 < k → linesFrom k s p ≡ lineOf (recordAt s p) ++ linesFrom (k - 1) s (p + 64)
-unfolding linesFrom
-lines-step s p (suc k) h = let e : suc k - 1 ≡ k = omega arith in rw e
-
--- n - i lines are left at i: one more is stored
-module _ (s : List ℕ) (n i to next : ℕ) (c : Clipped) (h : i < n) (is : c ≡ recordAt s (i * 64)) (e : next ≡ to + length (lineOf c)) where
-  left : linesFrom (n - i) s (i * 64) ≡ lineOf c ++ linesFrom (n - (i + 1)) s ((i + 1) * 64)
-  left =
-      let p : i * 64 + 64 ≡ (i + 1) * 64 = omega arith in
-      let q : n - i - 1 ≡ n - (i + 1) = omega arith in
-      rw (← p, ← q, is) (lines-step s (i * 64) (n - i) (omega arith))
-
-  pub line-stored : (xs ys whole : List ℕ) → ys ≡ stored xs to (lineOf c) → stored xs to (linesFrom (n - i) s (i * 64)) ≡ whole → stored ys next (linesFrom (n - (i + 1)) s ((i + 1) * 64)) ≡ whole
-  line-stored xs ys whole f g = rw (e, f) (stored-join xs to (lineOf c) _ ∙ ap (stored xs to) (sym left) ∙ g)
-
-  pub line-counted : (total : ℕ) → to + length (linesFrom (n - i) s (i * 64)) ≡ total → next + length (linesFrom (n - (i + 1)) s ((i + 1) * 64)) ≡ total
-  line-counted total g = let l = ap length left ∙ length-append (lineOf c) _ in omega arith
-
 pub line-room : (to next : ℕ) (c : Clipped) → next ≡ to + length (lineOf c) → next ≤ to + 70
 line-room to next c e = omega (arith, length-line c)
-
--- no line is left: what follows is the torn end
-lines-none : (s : List ℕ) (n i : ℕ) → n ≤ i → linesFrom (n - i) s (i * 64) ≡ tornEnd s
-unfolding linesFrom
-lines-none s n i h = let e : n - i ≡ 0 = omega arith in rw e
-
-pub torn-no : (s : List ℕ) → length s % 64 ≡ 0 → [] ≡ tornEnd s
-unfolding tornEnd
-torn-no s h = when-eq _ _ _ _ _ h refl
-
-pub torn-yes : (s : List ℕ) → (length s % 64 ≡ 0 → ⊥) → numberLine 9 ≡ tornEnd s
-unfolding tornEnd
-torn-yes s h = when-ne _ _ _ _ _ h refl
-
--- ---- the whole text
-pub text-start : (s : List ℕ) → linesFrom (length s / 64 - 0) s 0 ≡ textOf s
-unfolding textOf
-text-start s = let e : length s / 64 - 0 ≡ length s / 64 = omega arith in rw e
-
-pub text-count : (s : List ℕ) → 0 + length (linesFrom (length s / 64 - 0) s 0) ≡ length (textOf s)
-text-count s = omega (arith, ap length (text-start s))
-
-pub text-none : (s xs : List ℕ) → length xs < room s
-    → (0 ≡ (when leb (room s) (length xs) then length (textOf s) else 0)) × ((xs ≡ (when leb (room s) (length xs) then stored xs 0 (textOf s) else xs)) × (0 ≤ length xs))
-text-none s xs h = (when-gt _ _ _ _ _ h refl, (when-gt _ _ _ _ _ h refl, omega arith))
-
--- after the last line comes the torn end, e
-pub text-end : (s xs ys zs e : List ℕ) (n i to next : ℕ) → room s ≤ length xs → n ≤ i → e ≡ tornEnd s
-    → stored ys to (linesFrom (n - i) s (i * 64)) ≡ stored xs 0 (textOf s) → to + length (linesFrom (n - i) s (i * 64)) ≡ length (textOf s)
-    → zs ≡ stored ys to e → next ≡ to + length e → next ≤ length zs
-    → (next ≡ (when leb (room s) (length xs) then length (textOf s) else 0)) × ((zs ≡ (when leb (room s) (length xs) then stored xs 0 (textOf s) else xs)) × (next ≤ length zs))
-text-end s xs ys zs e n i to next r h t f g z w l =
-    let m : linesFrom (n - i) s (i * 64) ≡ e = lines-none s n i h ∙ sym t in
-    (when-le _ _ _ _ _ r (w ∙ ap (λ (o : List ℕ). to + length o) (sym m) ∙ g), (when-le _ _ _ _ _ r (z ∙ ap (stored ys to) (sym m) ∙ f), l))
 
 -- ---- the numbers that an edge can get have one digit
 refusal-digit : (p w : Bool) → planeRefusal p w < 10
@@ -159,6 +100,6 @@ clipped-digit : (a b : Point) (w : Rect) → numberOf (clipped a b w) < 10
 unfolding clipped beside
 clipped-digit a b w = cases (λ (c : Clipped). numberOf c < 10) _ _ _ (λ h. edge-digit a b _) (λ h. unfold numberOf in refusal-digit _ _)
 
-pub record-digit : (s : List ℕ) (p : ℕ) → numberOf (recordAt s p) < 10
-unfolding recordAt
-record-digit s p = clipped-digit _ _ _
+pub record-digit : (s : List ℕ) → numberOf (answerOf s) < 10
+unfolding answerOf
+record-digit s = clipped-digit _ _ _

@@ -1,16 +1,14 @@
 -- The lines: the number and, for 0, four groups of 16 lower-case hex digits. A last part under 64 bytes writes 9.
-use Prim.Native.Nat.{ℕ, zero, suc, _+_, _*_, _/_, _%_}
+use Prim.Native.Nat.{ℕ, _+_}
 use mathlib.Core.List.{List, [], _∷_, _++_}
-use lib.Dec.{eqb}
-use lib.ListN.{length}
 use lib.Ieee.{binary64, toBits}
-use Rattle.float.specs.Choice.{when_then_else_}
 use Rattle.answer.specs.Answer.{missed, torn}
 use Rattle.buffer.specs.Digits.{group}
+use Rattle.buffer.specs.Text as Text
 use Rattle.clip.specs.declared.Segment.{Segment}
 use Rattle.clip.specs.declared.Clipped.{Clipped}
 use Rattle.clip.specs.declared.Clipped.the-variants.{Kept, Missed, Refused}
-use Rattle.cut.specs.Record.{recordAt}
+use Rattle.cut.specs.Record.{answerOf}
 
 -- a number below 10 as its digit, and a line end
 unfoldable pub numberLine : ℕ → List ℕ
@@ -28,18 +26,16 @@ lineOf (Kept s) = keptLine s
 lineOf Missed = numberLine missed
 lineOf (Refused n) = numberLine n
 
--- 9 for a last part under 64 bytes
-unfoldable pub tornEnd : List ℕ → List ℕ
-tornEnd s = when eqb (length s % 64) 0 then [] else numberLine torn
+abbrev pub recordLine : List ℕ → List ℕ
+recordLine s = lineOf (answerOf s)
 
--- the lines of n records from the place p on, and of a torn end
-unfoldable pub linesFrom : ℕ → List ℕ → ℕ → List ℕ
-linesFrom zero s p = tornEnd s
-linesFrom (suc n) s p = lineOf (recordAt s p) ++ linesFrom n s (p + 64)
+-- for a last part under 64 bytes
+abbrev pub tornLine : List ℕ
+tornLine = numberLine torn
 
-unfoldable pub textOf : List ℕ → List ℕ
-textOf s = linesFrom (length s / 64) s 0
+abbrev pub textOf : List ℕ → List ℕ
+textOf s = Text.textOf 64 recordLine tornLine s
 
 -- the room that a text can take: 70 bytes for each record, and 2 for a torn end
-unfoldable pub room : List ℕ → ℕ
-room s = length s / 64 * 70 + 2
+abbrev pub room : List ℕ → ℕ
+room s = Text.roomFor 64 70 s

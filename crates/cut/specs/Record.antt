@@ -1,4 +1,4 @@
--- A record of 64 bytes at the place p: a.x, a.y, b.x, b.y, window low x, low y, high x, high y, little-endian bits.
+-- A record of 64 bytes: a.x, a.y, b.x, b.y, window low x, low y, high x, high y, little-endian bits.
 use Prim.Native.Nat.{ℕ, _+_}
 use mathlib.Core.List.{List}
 use lib.Ieee.{Float, binary64, ofBits}
@@ -23,5 +23,6 @@ windowAt s p =
     let hi = pointAt s (p + 16) in
     (from lo .x to hi .x) by (from lo .y to hi .y)
 
-unfoldable pub recordAt : List ℕ → ℕ → Clipped
-recordAt s p = clipped (pointAt s p) (pointAt s (p + 16)) (windowAt s (p + 32))
+-- the answer for the record
+unfoldable pub answerOf : List ℕ → Clipped
+answerOf s = clipped (pointAt s 0) (pointAt s 16) (windowAt s 32)

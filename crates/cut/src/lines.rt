@@ -1,12 +1,11 @@
 // The lines of cut edges, from records.
 ghost use mathlib.Core.Path.{_≡_};
 ghost use Prim.Native.Nat.{_+_, _≤_, _<_};
-ghost use lib.Dec.{leb};
 ghost use lib.ListN.{length};
-ghost use Rattle.float.specs.Choice.{when_then_else_};
 ghost use Rattle.buffer.specs.Bytes.{stored};
+ghost use Rattle.buffer.specs.Text.{written, countWritten};
 ghost use Rattle.clip.specs.Answers.{numberOf};
-ghost use Rattle.cut.specs.Record.{floatAt, pointAt, windowAt, recordAt};
+ghost use Rattle.cut.specs.Record.{floatAt, pointAt, windowAt, answerOf};
 ghost use Rattle.cut.specs.Line.{numberLine, keptLine, lineOf, textOf, room};
 use answer::MISSED;
 use answer::TORN;
@@ -19,8 +18,8 @@ use plane::Rect;
 // The text of the records in s: a line for each, and one more for a torn end. Gives its length, or 0
 // with out as it was where out has no room: 70 bytes for each record, and 2.
 pub fn put_text(s: &[u8], out: &mut [u8]) -> usize
-    ensures count { λ r. ⌜ r ≡ (when leb (room (now (s .entry))) (length (now (out .entry))) then length (textOf (now (s .entry))) else 0) ⌝ }
-    ensures bytes { λ _. ⌜ now (out .exit) ≡ (when leb (room (now (s .entry))) (length (now (out .entry))) then stored (now (out .entry)) 0 (textOf (now (s .entry))) else now (out .entry)) ⌝ }
+    ensures count { λ r. ⌜ r ≡ countWritten (room (now (s .entry))) (textOf (now (s .entry))) (now (out .entry)) ⌝ }
+    ensures bytes { λ _. ⌜ now (out .exit) ≡ written (room (now (s .entry))) (textOf (now (s .entry))) (now (out .entry)) ⌝ }
     ensures within { λ r. ⌜ r ≤ length (now (out .exit)) ⌝ }
 {
     let n = s.len() / 64;
@@ -33,7 +32,7 @@ pub fn put_text(s: &[u8], out: &mut [u8]) -> usize
     let mut i: usize = 0;
     let mut to: usize = 0;
     while i < n {
-        to = put_line(out, to, answer_at(s, i * 64));
+        to = put_line(out, to, answer_of(&s[i * 64..i * 64 + 64]));
         i += 1;
     }
     if s.len() % 64 == 0 {
@@ -86,19 +85,18 @@ fn put_number(out: &mut [u8], to: usize, n: u8)
     out[to + 1] = b'\n';
 }
 
-// The answer for the record at a place.
-fn answer_at(s: &[u8], at: usize) -> Clipped
-    requires { ⌜ at + 64 ≤ length (now s) ⌝ }
-    ensures { λ r. ⌜ r ≡ recordAt (now (s .entry)) at ⌝ }
+// The answer for a record.
+fn answer_of(s: &[u8]) -> Clipped
+    ensures { λ r. ⌜ r ≡ answerOf (now (s .entry)) ⌝ }
 {
-    let a = point_at(s, at);
-    let b = point_at(s, at + 16);
-    clip::clip_edge(a, b, window_at(s, at + 32))
+    let a = point_at(s, 0);
+    let b = point_at(s, 16);
+    clip::clip_edge(a, b, window_at(s, 32))
 }
 
 // The low corner, then the high one.
 fn window_at(s: &[u8], at: usize) -> Rect
-    requires { ⌜ at + 32 ≤ length (now s) ⌝ }
+    requires { ⌜ at ≤ 32 ⌝ }
     ensures { λ r. ⌜ r ≡ windowAt (now (s .entry)) at ⌝ }
 {
     let lo = point_at(s, at);
@@ -110,7 +108,7 @@ fn window_at(s: &[u8], at: usize) -> Rect
 }
 
 fn point_at(s: &[u8], at: usize) -> Point
-    requires { ⌜ at + 16 ≤ length (now s) ⌝ }
+    requires { ⌜ at ≤ 48 ⌝ }
     ensures { λ r. ⌜ r ≡ pointAt (now (s .entry)) at ⌝ }
 {
     Point {

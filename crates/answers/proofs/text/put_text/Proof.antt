@@ -1,44 +1,33 @@
--- `put_text` stores the text. The loop's invariant: the lines left, stored at `to`, give what the whole text would have given, and end where it ends.
-use Prim.Native.Nat.{_+_, _-_, _*_, _/_, _≤_}
-use mathlib.Core.Path.{_≡_, refl, ap}
+-- `put_text` writes the text.
+use Prim.Native.Nat.{_-_}
+use mathlib.Core.Path.{refl}
 use native.Mathlib.Omega.{arith}
-use lib.ListN.{length, length-set}
+use lib.ListN.{length-set}
+use Rattle.float.specs.Choice.{when_then_else_}
 use Rattle.buffer.specs.Bytes.{stored}
-use Rattle.answers.specs.Line.{linesFrom, textOf, room}
-use Rattle.answers.proofs.Run.{part-is, line-stored, line-counted, torn-no, torn-yes, text-start, text-count, text-none, text-end}
+use Rattle.buffer.proofs.Text.{Writing, none-written, writing-starts, line-written, whole-written, torn-written}
+use Rattle.answers.specs.Number.{numberText}
+use Rattle.answers.specs.Line.{lineOf, tornLine}
 use Rattle.answers.proofs.text.put_text.Statement.{statement}
 use Rattle.answers.proofs.text.put_text.Tie as tie
 
 abbrev Inv-loop : tie.InvT-loop
-Inv-loop s out₀ n i₀ to₀ out i to =
-    (i ≤ n) × (n ≡ length s / 192) × (room s ≤ length out₀) × (length out ≡ length out₀) × (to ≤ i * 822)
-    × (stored out to (linesFrom (n - i) s (i * 192)) ≡ stored out₀ 0 (textOf s)) × (to + length (linesFrom (n - i) s (i * 192)) ≡ length (textOf s))
+Inv-loop s out₀ n i₀ to₀ out i to = Writing 192 lineOf tornLine 822 s out₀ n out i to
 
 abbrev μ-loop : tie.MeasureT-loop
 μ-loop s out₀ n i₀ to₀ out i to = n - i
 
 returns : tie.Need-returns Inv-loop μ-loop
-unfolding room
-returns c = let a = c .before .before .before .args in text-none (a .s .now) (a .out .now) (omega arith)
+returns c = none-written _ _ _ (omega arith)
 
 sub-if2 : tie.Need-sub-if2 Inv-loop μ-loop
 sub-if2 c = omega arith
 
 returns-2 : tie.Need-returns-2 Inv-loop μ-loop
-unfolding room
-returns-2 c = let a = c .before .before .before .before .args in text-none (a .s .now) (a .out .now) (omega arith)
+returns-2 c = none-written _ _ _ (omega arith)
 
 loop-holds : tie.Need-loop-holds Inv-loop μ-loop
-unfolding room
-loop-holds c = (
-  omega arith,
-  refl,
-  omega arith,
-  refl,
-  omega arith,
-  ap (stored _ 0) (text-start (c .before .before .before .before .args .s .now)),
-  text-count (c .before .before .before .before .args .s .now),
-)
+loop-holds c = writing-starts (omega arith)
 
 mul-put-line : tie.Need-mul-put-line Inv-loop μ-loop
 mul-put-line c = omega arith
@@ -59,7 +48,6 @@ part-put-line-end : tie.Need-part-put-line-end Inv-loop μ-loop
 part-put-line-end c = omega arith
 
 put-line-requires : tie.Need-put-line-requires Inv-loop μ-loop
-unfolding room
 put-line-requires c κs = omega arith
 
 add-i : tie.Need-add-i Inv-loop μ-loop
@@ -70,52 +58,33 @@ loop-less c = omega arith
 
 loop-again : tie.Need-loop-again Inv-loop μ-loop
 loop-again c =
-    let l = c .before .before .before .before .before .before .loop in
     let w = c .before .before .put-line .ensures in
-    let t = c .before .before .before .before .before .loop-test .taken in
-    let p = part-is _ (l .i) in (
-      omega arith,
-      refl,
-      l .inv .2,
-      omega arith,
-      omega (arith, w .2),
-      line-stored _ _ (l .i) _ _ _ t p (w .0) _ _ _ (w .1) (l .inv .5),
-      line-counted _ _ (l .i) _ _ _ t p (w .0) _ (l .inv .6),
-    )
+    line-written (c .before .before .before .before .before .before .loop .inv) (omega arith) refl (w .0) (w .1) (w .2)
 
 same-length : tie.Need-same-length Inv-loop μ-loop
 same-length c = omega arith
 
 returns-3 : tie.Need-returns-3 Inv-loop μ-loop
-unfolding room stored
-returns-3 c =
-    let l = c .before .before .loop in
-    text-end _ _ _ _ _ _ (l .i) _ _ (l .inv .2) (c .before .loop-test .left) (torn-no _ (c .if3 .taken)) (l .inv .5) (l .inv .6) refl (omega arith) (omega arith)
+returns-3 c = whole-written (c .before .before .loop .inv) (c .before .loop-test .left) (c .if3 .taken)
 
 slice-write-out : tie.Need-slice-write-out Inv-loop μ-loop
-unfolding room
 slice-write-out c = omega arith
 
 add-out : tie.Need-add-out Inv-loop μ-loop
-unfolding room
 add-out c = omega arith
 
 slice-write-out-2 : tie.Need-slice-write-out-2 Inv-loop μ-loop
-unfolding room
 slice-write-out-2 c = simp length-set (omega arith)
 
 add-result : tie.Need-add-result Inv-loop μ-loop
-unfolding room
 add-result c = omega arith
 
 same-length-2 : tie.Need-same-length-2 Inv-loop μ-loop
 same-length-2 c = simp length-set (omega arith)
 
 returns-4 : tie.Need-returns-4 Inv-loop μ-loop
-unfolding room stored
-returns-4 c =
-    let l = c .before .before .loop in
-    text-end _ _ _ _ _ _ (l .i) _ _ (l .inv .2) (c .before .loop-test .left) (torn-yes _ (c .if3 .left)) (l .inv .5) (l .inv .6) refl (omega arith) (simp length-set (omega arith))
+unfolding stored numberText when_then_else_
+returns-4 c = torn-written (c .before .before .loop .inv) (c .before .loop-test .left) (c .if3 .left) refl refl
 
 pub put-text-spec : {M : Type 1} → statement M
 put-text-spec =

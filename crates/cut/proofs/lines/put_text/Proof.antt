@@ -1,54 +1,55 @@
--- `put_text` stores the text. The loop's invariant: the lines left, stored at `to`, give what the whole text would have given, and end where it ends.
-use Prim.Native.Nat.{_+_, _-_, _*_, _/_, _≤_}
-use mathlib.Core.Path.{_≡_, refl, ap}
+-- `put_text` writes the text.
+use Prim.Native.Nat.{_-_}
+use mathlib.Core.Path.{ap}
 use native.Mathlib.Omega.{arith}
-use lib.ListN.{length}
-use Rattle.buffer.specs.Bytes.{stored}
-use Rattle.cut.specs.Line.{linesFrom, textOf, room}
-use Rattle.cut.proofs.Text.{length-number, record-digit, line-room, line-stored, line-counted, torn-no, torn-yes, text-start, text-count, text-none, text-end}
+use Rattle.buffer.proofs.Text.{Writing, none-written, writing-starts, line-written, whole-written, torn-written}
+use Rattle.cut.specs.Line.{lineOf, recordLine, tornLine}
+use Rattle.cut.proofs.Text.{length-number, record-digit, line-room}
+use borrow.Author.Needs.{needs}
 use Rattle.cut.proofs.lines.put_text.Statement.{statement}
 use Rattle.cut.proofs.lines.put_text.Tie as tie
 
 abbrev Inv-loop : tie.InvT-loop
-Inv-loop s out₀ n i₀ to₀ out i to =
-    (i ≤ n) × (n ≡ length s / 64) × (room s ≤ length out₀) × (length out ≡ length out₀) × (to ≤ i * 70)
-    × (stored out to (linesFrom (n - i) s (i * 64)) ≡ stored out₀ 0 (textOf s)) × (to + length (linesFrom (n - i) s (i * 64)) ≡ length (textOf s))
+Inv-loop s out₀ n i₀ to₀ out i to = Writing 64 recordLine tornLine 70 s out₀ n out i to
 
 abbrev μ-loop : tie.MeasureT-loop
 μ-loop s out₀ n i₀ to₀ out i to = n - i
 
 returns : tie.Need-returns Inv-loop μ-loop
-unfolding room
-returns c = let a = c .before .before .before .args in text-none (a .s .now) (a .out .now) (omega arith)
+returns c = none-written _ _ _ (omega arith)
 
 sub-if2 : tie.Need-sub-if2 Inv-loop μ-loop
 sub-if2 c = omega arith
 
 returns-2 : tie.Need-returns-2 Inv-loop μ-loop
-unfolding room
-returns-2 c = let a = c .before .before .before .before .args in text-none (a .s .now) (a .out .now) (omega arith)
+returns-2 c = none-written _ _ _ (omega arith)
 
 loop-holds : tie.Need-loop-holds Inv-loop μ-loop
-unfolding room
-loop-holds c = (
-  omega arith,
-  refl,
-  omega arith,
-  refl,
-  omega arith,
-  ap (stored _ 0) (text-start (c .before .before .before .before .args .s .now)),
-  text-count (c .before .before .before .before .args .s .now),
-)
+loop-holds c = writing-starts (omega arith)
 
-mul-answer-at : tie.Need-mul-answer-at Inv-loop μ-loop
-mul-answer-at c = omega arith
+mul-answer-of : tie.Need-mul-answer-of Inv-loop μ-loop
+mul-answer-of c = omega arith
 
-answer-at-requires : tie.Need-answer-at-requires Inv-loop μ-loop
-answer-at-requires c κs = omega arith
+mul-answer-of-2 : tie.Need-mul-answer-of-2 Inv-loop μ-loop
+mul-answer-of-2 c = omega arith
+
+add-answer-of : tie.Need-add-answer-of Inv-loop μ-loop
+add-answer-of c = omega arith
+
+sub-answer-of : tie.Need-sub-answer-of Inv-loop μ-loop
+sub-answer-of c = omega arith
+
+part-answer-of-start : tie.Need-part-answer-of-start Inv-loop μ-loop
+part-answer-of-start c = omega arith
+
+part-answer-of-end : tie.Need-part-answer-of-end Inv-loop μ-loop
+part-answer-of-end c = omega arith
+
+answer-of-requires : tie.Need-answer-of-requires Inv-loop μ-loop
+answer-of-requires c κs = search needs
 
 put-line-requires : tie.Need-put-line-requires Inv-loop μ-loop
-unfolding room
-put-line-requires c κs = (omega arith, rw (c .answer-at .ensures) (record-digit _ _))
+put-line-requires c κs = (omega arith, rw (c .answer-of .ensures) (record-digit _))
 
 add-i : tie.Need-add-i Inv-loop μ-loop
 add-i c = omega arith
@@ -58,30 +59,16 @@ loop-less c = omega arith
 
 loop-again : tie.Need-loop-again Inv-loop μ-loop
 loop-again c =
-    let l = c .before .before .before .before .before .before .loop in
     let w = c .before .before .put-line .ensures in
-    let a = c .before .before .before .answer-at .ensures in
-    let t = c .before .before .before .before .before .loop-test .taken in (
-      omega arith,
-      refl,
-      l .inv .2,
-      omega arith,
-      omega (arith, line-room _ _ _ (w .0)),
-      line-stored _ _ (l .i) _ _ _ t a (w .0) _ _ _ (w .1) (l .inv .5),
-      line-counted _ _ (l .i) _ _ _ t a (w .0) _ (l .inv .6),
-    )
+    line-written (c .before .before .before .before .before .before .before .loop .inv) (omega arith) (ap lineOf (c .before .before .before .answer-of .ensures)) (w .0) (w .1) (line-room _ _ _ (w .0))
 
 same-length : tie.Need-same-length Inv-loop μ-loop
 same-length c = omega arith
 
 returns-3 : tie.Need-returns-3 Inv-loop μ-loop
-unfolding room stored
-returns-3 c =
-    let l = c .before .before .loop in
-    text-end _ _ _ _ _ _ (l .i) _ _ (l .inv .2) (c .before .loop-test .left) (torn-no _ (c .if3 .taken)) (l .inv .5) (l .inv .6) refl (omega arith) (omega arith)
+returns-3 c = whole-written (c .before .before .loop .inv) (c .before .loop-test .left) (c .if3 .taken)
 
 put-number-requires : tie.Need-put-number-requires Inv-loop μ-loop
-unfolding room
 put-number-requires c κs = (omega arith, omega arith)
 
 add-result : tie.Need-add-result Inv-loop μ-loop
@@ -91,10 +78,7 @@ same-length-2 : tie.Need-same-length-2 Inv-loop μ-loop
 same-length-2 c = omega arith
 
 returns-4 : tie.Need-returns-4 Inv-loop μ-loop
-unfolding room
-returns-4 c =
-    let l = c .before .before .before .before .before .before .loop in
-    text-end _ _ _ _ _ _ (l .i) _ _ (l .inv .2) (c .before .before .before .before .before .loop-test .left) (torn-yes _ (c .before .before .before .before .if3 .left)) (l .inv .5) (l .inv .6) (c .before .before .put-number .ensures) (omega (arith, length-number 9)) (omega arith)
+returns-4 c = torn-written (c .before .before .before .before .before .before .loop .inv) (omega arith) (c .before .before .before .before .if3 .left) (c .before .before .put-number .ensures) (length-number 9)
 
 pub put-text-spec : {M : Type 1} → statement M
 put-text-spec =
@@ -106,8 +90,13 @@ put-text-spec =
     sub-if2
     returns-2
     loop-holds
-    mul-answer-at
-    answer-at-requires
+    mul-answer-of
+    mul-answer-of-2
+    add-answer-of
+    sub-answer-of
+    part-answer-of-start
+    part-answer-of-end
+    answer-of-requires
     put-line-requires
     add-i
     loop-less
