@@ -1,4 +1,5 @@
--- Laws that the proofs of this crate cite.
+-- Laws that the proofs of this crate cite, and the promises.
 pub mod Cases
 pub mod Run
 pub mod Spaced
+pub mod Promises

@@ -1,7 +1,8 @@
--- The answering program: requests, the operations, their lines.
+-- The answering program: requests, the operations, their lines, and what is promised of them.
 pub mod Request
 pub mod Reply
 pub mod Table
 pub mod Number
 pub mod Walked
 pub mod Line
+pub mod Promises

@@ -1,5 +1,5 @@
 -- Line ends: digits have none, and a text has one for each line.
-use Prim.Native.Nat.{ℕ, zero, suc, _+_, _*_, _/_, _%_}
+use Prim.Native.Nat.{ℕ, zero, suc, _+_, _*_, _%_}
 use native.Mathlib.Nat.{zero-add, zero-mul, suc-mul, add-comm}
 use native.Mathlib.Omega.{arith}
 use mathlib.Core.Path.{_≡_, refl, ap, _∙_}
@@ -24,29 +24,34 @@ pub no-end : (b : ℕ) (bs : List ℕ) → (b ≡ 10 → ⊥) → lineEnds (b �
 unfolding lineEnds
 no-end b bs h = omega (arith, when-ne {A = ℕ} b 10 0 1 0 h refl)
 
-pub digit-no-end : (d : ℕ) → digitOf d ≡ 10 → ⊥
+pub digit-no-end : (d : ℕ) (bs : List ℕ) → lineEnds (digitOf d ∷ bs) ≡ lineEnds bs
 unfolding digitOf
-digit-no-end d = cases (λ (b : ℕ). b ≡ 10 → ⊥) (ltb d 10) (48 + d) (87 + d) (λ h e. omega arith) (λ h e. omega arith)
+digit-no-end d bs =
+    cases (λ (b : ℕ). lineEnds (b ∷ bs) ≡ lineEnds bs) (ltb d 10) (48 + d) (87 + d)
+    (λ h. no-end _ bs (λ e. omega arith)) (λ h. no-end _ bs (λ e. omega arith))
 
 ends-hex : (k n : ℕ) → lineEnds (hex k n) ≡ 0
 unfolding hex lineEnds
 ends-hex zero n = refl
-ends-hex (suc k) n = no-end _ (hex k n) (digit-no-end _) ∙ ends-hex k n
+ends-hex (suc k) n = digit-no-end _ (hex k n) ∙ ends-hex k n
 
 pub ends-group : (n : ℕ) → lineEnds (group n) ≡ 0
 unfolding group lineEnds when_then_else_
 ends-group n = rw ends-hex
 
 -- ---- a text, where each line has one line end
-module _ (size : ℕ) (line : List ℕ → List ℕ) (torn : List ℕ) (one : (r : List ℕ) → lineEnds (line r) ≡ 1) (last : lineEnds torn ≡ 1) where
+module _ (size : ℕ) (line : List ℕ → List ℕ) (torn : List ℕ)
+    (one : (r : List ℕ) → lineEnds (line r) ≡ 1) (last : lineEnds torn ≡ 1) where
   -- n records, with k line ends after them
-  ends-lines : (n : ℕ) (s : List ℕ) (k : ℕ) → lineEnds (linesOf size line torn 0 (drop (n * size) s)) ≡ k → lineEnds (linesOf size line torn n s) ≡ n + k
+  ends-lines : (n : ℕ) (s : List ℕ) (k : ℕ)
+      → lineEnds (linesOf size line torn 0 (drop (n * size) s)) ≡ k → lineEnds (linesOf size line torn n s) ≡ n + k
   unfolding linesOf
   ends-lines zero s k h = rw zero-add (rw zero-mul at h)
   ends-lines (suc n) s k h =
       let e : suc n * size ≡ size + n * size = suc-mul n size ∙ add-comm _ _ in
       let f : lineEnds (linesOf size line torn 0 (drop (n * size) (drop size s))) ≡ k = rw (drop-drop, ← e) h in
-      omega (arith, ends-append (line (take size s)) (linesOf size line torn n (drop size s)), one (take size s), ends-lines n (drop size s) k f)
+      let rest = linesOf size line torn n (drop size s) in
+      omega (arith, ends-append (line (take size s)) rest, one (take size s), ends-lines n (drop size s) k f)
 
   pub one-line-each : OneLineEach size (textOf size line torn)
   unfolding textOf lineEnds

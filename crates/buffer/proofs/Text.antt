@@ -1,6 +1,7 @@
 -- A text of records: it is written line by line, and it is the texts of its blocks, joined.
 use Prim.Native.Nat.{ℕ, zero, suc, _+_, _-_, _*_, _/_, _%_, _≤_, _<_}
-use native.Mathlib.Nat.{zero-add, suc-add, zero-mul, suc-mul, add-mul, one-mul, add-sub-cancel-left, mod-eq-sub-div-mul, div-add-mod', mul-add-div-right}
+use native.Mathlib.Nat.{zero-add, suc-add, add-sub-cancel-left, zero-mul, one-mul, suc-mul, add-mul}
+use native.Mathlib.Nat.{mod-eq-sub-div-mul, div-add-mod', mul-add-div-right}
 use native.Mathlib.Omega.{arith}
 use mathlib.Core.Path.{_≡_, refl, sym, ap, _∙_}
 use mathlib.Core.List.{List, [], _∷_, _++_, append-assoc}
@@ -11,7 +12,7 @@ use Rattle.buffer.specs.Bytes.{stored}
 use Rattle.buffer.specs.Text.{linesOf, textOf, roomFor, written, countWritten, JoinsBlocks}
 use Rattle.buffer.proofs.Stored.{stored-join, length-stored}
 
--- so many bytes of a text are written, and leave ys
+-- of a text so many bytes are written, and leave ys
 abbrev pub WrittenIn : ℕ → List ℕ → List ℕ → List ℕ → ℕ → Type 0
 WrittenIn room text xs ys count = (count ≡ countWritten room text xs) × ((ys ≡ written room text xs) × (count ≤ length ys))
 
@@ -44,7 +45,8 @@ module _ (size : ℕ) (line : List ℕ → List ℕ) (torn : List ℕ) where
   torn-yes s h = some-part _ (λ e. h (sym (length-last size s) ∙ e))
 
   -- ---- blocks
-  lines-join : (n m : ℕ) (a b : List ℕ) → length a ≡ n * size → linesOf size line torn (n + m) (a ++ b) ≡ linesOf size line torn n a ++ linesOf size line torn m b
+  lines-join : (n m : ℕ) (a b : List ℕ) → length a ≡ n * size
+      → linesOf size line torn (n + m) (a ++ b) ≡ linesOf size line torn n a ++ linesOf size line torn m b
   unfolding linesOf
   lines-join zero m [] b e = rw zero-add
   lines-join zero m (x ∷ a) b e = absurd (omega (arith, zero-mul size))
@@ -58,16 +60,19 @@ module _ (size : ℕ) (line : List ℕ → List ℕ) (torn : List ℕ) where
   unfolding textOf
   joins-blocks z a b h =
       let e : length a ≡ length a / size * size = omega (arith, div-add-mod' (length a) size) in
-      let f : length (a ++ b) / size ≡ length a / size + length b / size = ap (_/ size) (length-append a b ∙ ap (_+ length b) e) ∙ mul-add-div-right z _ _ in
+      let l : length (a ++ b) ≡ length a / size * size + length b = length-append a b ∙ ap (_+ length b) e in
+      let f : length (a ++ b) / size ≡ length a / size + length b / size = ap (_/ size) l ∙ mul-add-div-right z _ _ in
       rw f (lines-join (length a / size) (length b / size) a b e)
 
-  -- ---- Of n records the lines of i are stored, up to the place `to`: the lines left, stored there, give what the whole text would have given, and end where it ends.
-  abbrev pub linesLeft : ℕ → ℕ → List ℕ → List ℕ
-  linesLeft n i s = linesOf size line torn (n - i) (drop (i * size) s)
-
-  lines-step : (s : List ℕ) (k : ℕ) → 0 < k → linesOf size line torn k s ≡ line (take size s) ++ linesOf size line torn (k - 1) (drop size s)
+  lines-step : (s : List ℕ) (k : ℕ) → 0 < k
+      → linesOf size line torn k s ≡ line (take size s) ++ linesOf size line torn (k - 1) (drop size s)
   unfolding linesOf
   lines-step s (suc k) h = let e : suc k - 1 ≡ k = omega arith in rw e
+
+  -- ---- writing: of n records the lines of i are stored, up to the place `to`. The lines left, stored there, give what the
+  -- whole text would have given, and end where it ends.
+  abbrev pub linesLeft : ℕ → ℕ → List ℕ → List ℕ
+  linesLeft n i s = linesOf size line torn (n - i) (drop (i * size) s)
 
   pub record Writing (longest : ℕ) (s out₀ : List ℕ) (n : ℕ) (out : List ℕ) (i to : ℕ) : Type 0 where
     pub within : i ≤ n
@@ -97,14 +102,16 @@ module _ {size : ℕ} {line : List ℕ → List ℕ} {torn : List ℕ} {longest 
   module _ {n i to : ℕ} {xs : List ℕ} (w : Writing size line torn longest s out₀ n xs i to) where
     -- one more line, l, of the record that was lent
     pub line-written : {ys l : List ℕ} {next : ℕ} → i < n → l ≡ line (take (i * size + size - i * size) (drop (i * size) s))
-        → next ≡ to + length l → ys ≡ stored xs to l → next ≤ to + longest → Writing size line torn longest s out₀ n ys (i + 1) next
+        → next ≡ to + length l → ys ≡ stored xs to l → next ≤ to + longest
+        → Writing size line torn longest s out₀ n ys (i + 1) next
     line-written {ys} {l} {next} h e f k g =
         let a : (i + 1) * size ≡ i * size + size = add-mul i 1 size ∙ ap (i * size +_) (one-mul size) in
         let b : (i + 1) * longest ≡ i * longest + longest = add-mul i 1 longest ∙ ap (i * longest +_) (one-mul longest) in
         let c : n - (i + 1) ≡ n - i - 1 = omega arith in
         let m : l ≡ line (take size (drop (i * size) s)) = e ∙ rw add-sub-cancel-left in
         let rest = linesLeft size line torn n (i + 1) s in
-        let q : linesLeft size line torn n i s ≡ l ++ rest = lines-step size line torn (drop (i * size) s) (n - i) (omega arith) ∙ rw (a, c, m, drop-drop) in
+        let p = lines-step size line torn (drop (i * size) s) (n - i) (omega arith) in
+        let q : linesLeft size line torn n i s ≡ l ++ rest = p ∙ rw (a, c, m, drop-drop) in
         let t = ap length q ∙ length-append l rest in
         record {
           within = omega arith;
@@ -117,7 +124,8 @@ module _ {size : ℕ} {line : List ℕ → List ℕ} {torn : List ℕ} {longest 
         }
 
     -- no line is left: that of the last part, e, ends the text
-    ended : {ys e : List ℕ} {next : ℕ} → n ≤ i → linesOf size line torn 0 (lastPart size s) ≡ e → next ≡ to + length e → ys ≡ stored xs to e → length e ≤ 2
+    ended : {ys e : List ℕ} {next : ℕ} → n ≤ i → linesOf size line torn 0 (lastPart size s) ≡ e
+        → next ≡ to + length e → ys ≡ stored xs to e → length e ≤ 2
         → WrittenIn (roomFor size longest s) (textOf size line torn s) out₀ ys next
     ended {e = e} h t f k l =
         let j : i ≡ length s / size = omega arith in

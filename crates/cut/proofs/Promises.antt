@@ -2,7 +2,7 @@
 use Prim.Native.Nat.{ℕ, _+_}
 use native.Mathlib.Omega.{arith}
 use mathlib.Core.Path.{_≡_}
-use mathlib.Core.List.{List, [], _∷_}
+use mathlib.Core.List.{[], _∷_}
 use Rattle.float.specs.Choice.{when_then_else_}
 use Rattle.answer.specs.Answer.{missed, torn}
 use Rattle.buffer.specs.Text.{lineEnds}

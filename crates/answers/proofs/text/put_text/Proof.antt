@@ -1,4 +1,4 @@
--- `put_text` writes the text.
+-- `put_text` writes the text, line by line.
 use Prim.Native.Nat.{_-_}
 use mathlib.Core.Path.{refl}
 use native.Mathlib.Omega.{arith}

@@ -1,4 +1,4 @@
--- `put_text` writes the text.
+-- `put_text` writes the text, line by line.
 use Prim.Native.Nat.{_-_}
 use mathlib.Core.Path.{ap}
 use native.Mathlib.Omega.{arith}
@@ -59,8 +59,10 @@ loop-less c = omega arith
 
 loop-again : tie.Need-loop-again Inv-loop μ-loop
 loop-again c =
+    let l = c .before .before .before .before .before .before .before .loop in
+    let a = c .before .before .before .answer-of in
     let w = c .before .before .put-line .ensures in
-    line-written (c .before .before .before .before .before .before .before .loop .inv) (omega arith) (ap lineOf (c .before .before .before .answer-of .ensures)) (w .0) (w .1) (line-room _ _ _ (w .0))
+    line-written (l .inv) (omega arith) (ap lineOf (a .ensures)) (w .0) (w .1) (line-room _ _ _ (w .0))
 
 same-length : tie.Need-same-length Inv-loop μ-loop
 same-length c = omega arith
@@ -78,7 +80,10 @@ same-length-2 : tie.Need-same-length-2 Inv-loop μ-loop
 same-length-2 c = omega arith
 
 returns-4 : tie.Need-returns-4 Inv-loop μ-loop
-returns-4 c = torn-written (c .before .before .before .before .before .before .loop .inv) (omega arith) (c .before .before .before .before .if3 .left) (c .before .before .put-number .ensures) (length-number 9)
+returns-4 c =
+    let l = c .before .before .before .before .before .before .loop in
+    let w = c .before .before .put-number in
+    torn-written (l .inv) (omega arith) (c .before .before .before .before .if3 .left) (w .ensures) (length-number 9)
 
 pub put-text-spec : {M : Type 1} → statement M
 put-text-spec =
