@@ -135,12 +135,12 @@ one-finite : (finite (neg oneF) ≡ true) × (finite oneF ≡ true)
 unfolding finite neg ofBits
 one-finite = (refl, refl)
 
-on-own : {A : Type 0} (a : Axis) (i j : A) → byAxis a (byAxis a i j) (byAxis a j i) ≡ i
+pub on-own : {A : Type 0} (a : Axis) (i j : A) → byAxis a (byAxis a i j) (byAxis a j i) ≡ i
 unfolding byAxis
 on-own U i j = refl
 on-own «V» i j = refl
 
-on-other : {A : Type 0} (a : Axis) (i j : A) → byAxis (otherAxis a) (byAxis a i j) (byAxis a j i) ≡ j
+pub on-other : {A : Type 0} (a : Axis) (i j : A) → byAxis (otherAxis a) (byAxis a i j) (byAxis a j i) ≡ j
 unfolding byAxis
 on-other U i j = refl
 on-other «V» i j = refl

@@ -22,11 +22,12 @@ use Rattle.cube.proofs.Six.{both}
 use Rattle.line.specs.declared.compute.Axis.{Axis}
 use Rattle.line.specs.declared.compute.Axis.the-variants.{U, «V»}
 use Rattle.line.specs.Line.{byAxis, meetsFace, passesOppositeEdges, evenSigns, exitAxis, oneIf, exitPoint, directionOf, atCorner, nextFace}
-use Rattle.line.specs.Promises.{size, Finite, apart, Through}
+use Rattle.line.specs.Line.{otherAxis, coordinate, axisNumber, neighbourOver}
+use Rattle.line.specs.Promises.{size, Finite, apart, cornerAt, Through}
 use Rattle.line.proofs.Normal.{u-held, v-held, zero-is, opposite-is}
 use Rattle.line.proofs.Exit.{isV, leaves, exit-side, axis-v}
-use Rattle.line.proofs.Corner.{exit-corner, one-if-inj, factor-is-signed}
-use Rattle.walk.proofs.Kind.{Part, partOf, total, throughK, onVK, overU, overV, hit, stepK}
+use Rattle.line.proofs.Corner.{corner-coordinate, one-if-inj, factor-is-signed, on-own, on-other, exit-corner}
+use Rattle.walk.proofs.Kind.{Part, partOf, total, throughK, onVK, hit, stepK}
 use Rattle.walk.proofs.Balance.{to-test, of-test}
 
 -- ---- the exit axis, on whole numbers: m is a + b + c
@@ -87,6 +88,23 @@ unfolding directionOf oneIf when_then_else_ lt neg ofBits
 direction-is true = refl
 direction-is false = refl
 
+-- the neighbour over an axis, by its side
+abbrev pub over : Axis → ℕ → Bool → ℕ
+over a f plus = neighbour f (axisNumber a) (cond plus 1 0)
+
+over-side : (f : ℕ) (a : Axis) {c : Float} (plus : Bool) → c ≡ oneIf plus → neighbour f (axisNumber a) (directionOf c) ≡ over a f plus
+over-side f a plus e = ap (neighbour f (axisNumber a)) (ap directionOf e ∙ direction-is plus)
+
+over-corner : (f : ℕ) (a : Axis) (i j : Bool) → neighbourOver f a (cornerAt i j) ≡ over a f (byAxis a i j)
+over-corner f a i j = over-side f a _ (corner-coordinate a i j)
+
+-- what holds of a corner holds of it by its sides on the two axes
+by-sides : (a : Axis) (i j : Bool) (P : Bool → Bool → Type 0) → P i j
+    → P (byAxis a (byAxis a i j) (byAxis (otherAxis a) i j)) (byAxis a (byAxis (otherAxis a) i j) (byAxis a i j))
+unfolding byAxis
+by-sides U i j P h = h
+by-sides «V» i j P h = h
+
 module _ {n : Vector} (v : Finite n) (nz : isZero n ≡ false) (met : meetsFace n ≡ true) (m : ℕ) (e : m ≡ total n) where
   abbrev pub u-part : Part
   u-part = partOf m (n .x)
@@ -136,50 +154,44 @@ module _ {n : Vector} (v : Finite n) (nz : isZero n ≡ false) (met : meetsFace 
         rw (x, y, z) (of-test (size (n .x)) (size (n .y)) (size (n .z)) m (signBit (n .x)) (signBit (n .y)) (signBit (n .z)) e some u-sign v-sign (not (signBit (n .z))) h)
 
   -- ---- the side of the exit
-  side-u : exitAxis n ≡ U → exitPoint n U .u ≡ oneIf (not (signBit (n .y)))
-  unfolding byAxis ofBits
-  side-u h = exit-side n U ∙ ap oneIf (nought-lt (v-held v .is-own) (leaves v nz met U h .divides))
+  abbrev pub plusSide : Axis → Bool
+  plusSide a = byAxis a (not (signBit (n .y))) (signBit (n .x))
 
-  side-v : exitAxis n ≡ «V» → exitPoint n «V» .v ≡ oneIf (signBit (n .x))
+  side-is : (a : Axis) → exitAxis n ≡ a → coordinate a (exitPoint n a) ≡ oneIf (plusSide a)
   unfolding byAxis ofBits
-  side-v h = exit-side n «V» ∙ ap oneIf (lt-nought (u-held v .is-own) (leaves v nz met «V» h .divides))
+  side-is U h = exit-side n U ∙ ap oneIf (nought-lt (v-held v .is-own) (leaves v nz met U h .divides))
+  side-is «V» h = exit-side n «V» ∙ ap oneIf (lt-nought (u-held v .is-own) (leaves v nz met «V» h .divides))
 
-  -- ---- the next face, by the exit axis
+  -- ---- the next face, by the exit axis a: a corner of the exit edge has the side m on the other axis
   module _ (f t : ℕ) where
-    corner-u : exitAxis n ≡ U → atCorner f (exitPoint n U) U n t ≡ hit t (λ j. throughK (not (signBit (n .y))) j u-part v-part w-part) (overV f)
-    unfolding byAxis
-    corner-u h =
-        let k = not (signBit (n .y)) in
-        let s = side-u h in
-        let c = exit-corner v U (leaves v nz met U h) f t in
-        hit-is (atCorner f (exitPoint n U) U n t) t (λ j. throughK k j u-part v-part w-part) (overV f)
-        (λ g.
-        let d = c .0 g in
-        let q = one-if-inj (d .i) k (d .edge ∙ s) in
-        (d .j, rw q at (through-to (d .i) (d .j) (d .corner .through)), ap (neighbour f 1) (sym (direction-is (d .j))) ∙ d .corner .target))
-        (λ j g q. c .1 (record { i = k; j = j; edge = sym s; corner = record { through = through-of k j g; target = ap (neighbour f 1) (direction-is j) ∙ q } }))
+    abbrev pub through : Axis → Bool → Bool
+    through a m = throughK (byAxis a (plusSide a) m) (byAxis a m (plusSide a)) u-part v-part w-part
 
-    corner-v : exitAxis n ≡ «V» → atCorner f (exitPoint n «V») «V» n t ≡ hit t (λ i. throughK i (signBit (n .x)) u-part v-part w-part) (overU f)
-    unfolding byAxis
-    corner-v h =
-        let k = signBit (n .x) in
-        let s = side-v h in
-        let c = exit-corner v «V» (leaves v nz met «V» h) f t in
-        hit-is (atCorner f (exitPoint n «V») «V» n t) t (λ i. throughK i k u-part v-part w-part) (overU f)
+    corner-is : (a : Axis) → exitAxis n ≡ a → atCorner f (exitPoint n a) a n t ≡ hit t (through a) (over (otherAxis a) f)
+    corner-is a h =
+        let k = plusSide a in
+        let s = side-is a h in
+        let c = exit-corner v a (leaves v nz met a h) f t in
+        hit-is (atCorner f (exitPoint n a) a n t) t (through a) (over (otherAxis a) f)
         (λ g.
         let d = c .0 g in
-        let q = one-if-inj (d .j) k (d .edge ∙ s) in
-        (d .i, rw q at (through-to (d .i) (d .j) (d .corner .through)), ap (neighbour f 0) (sym (direction-is (d .i))) ∙ d .corner .target))
-        (λ i g q. c .1 (record { i = i; j = k; edge = sym s; corner = record { through = through-of i k g; target = ap (neighbour f 0) (direction-is i) ∙ q } }))
+        let q : byAxis a (d .i) (d .j) ≡ k = one-if-inj _ k (sym (corner-coordinate a (d .i) (d .j)) ∙ d .edge ∙ s) in
+        let p = by-sides a (d .i) (d .j) (λ i j. throughK i j u-part v-part w-part ≡ true) (through-to (d .i) (d .j) (d .corner .through)) in
+        (byAxis (otherAxis a) (d .i) (d .j), rw q at p, sym (over-corner f (otherAxis a) (d .i) (d .j)) ∙ d .corner .target))
+        (λ m g q.
+        let i = byAxis a k m in
+        let j = byAxis a m k in
+        let e = corner-coordinate a i j ∙ ap oneIf (on-own a k m) ∙ sym s in
+        let o = over-corner f (otherAxis a) i j ∙ ap (over (otherAxis a) f) (on-other a k m) ∙ q in
+        c .1 (record { i = i; j = j; edge = e; corner = record { through = through-of i j g; target = o } }))
+
+    next-is : (a : Axis) → exitAxis n ≡ a → nextFace f (exitPoint n a) a n t ≡ cond (hit t (through a) (over (otherAxis a) f)) t (over a f (plusSide a))
+    unfolding nextFace
+    next-is a h = choose t (corner-is a h) (over-side f a (plusSide a) (side-is a h))
 
     pub step-is : nextFace f (exitPoint n (exitAxis n)) (exitAxis n) n t ≡ stepK t f u-part v-part w-part
-    unfolding nextFace byAxis
     step-is = go (exitAxis n) refl
       where
         go : (a : Axis) → exitAxis n ≡ a → nextFace f (exitPoint n a) a n t ≡ stepK t f u-part v-part w-part
-        go U h =
-            let o = axis-kind U h in
-            rw o (choose t (corner-u h) (ap (λ (c : Float). neighbour f 0 (directionOf c)) (side-u h) ∙ ap (neighbour f 0) (direction-is (not (signBit (n .y))))))
-        go «V» h =
-            let o = axis-kind «V» h in
-            rw o (choose t (corner-v h) (ap (λ (c : Float). neighbour f 1 (directionOf c)) (side-v h) ∙ ap (neighbour f 1) (direction-is (signBit (n .x)))))
+        go U h = let o = axis-kind U h in rw o (unfold byAxis in next-is U h)
+        go «V» h = let o = axis-kind «V» h in rw o (unfold byAxis in next-is «V» h)
