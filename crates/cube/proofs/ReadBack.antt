@@ -13,7 +13,7 @@ use Rattle.float.specs.Float.{_⊘_, zeroF, oneF, finite, magnitudeOf}
 use Rattle.float.specs.Exact.{Value}
 use Rattle.float.proofs.Choice.{and-both}
 use Rattle.float.proofs.Order.{lt-le}
-use Rattle.float.proofs.Unique.{div-one}
+use Rattle.float.proofs.Unit.{div-one}
 use Rattle.answer.specs.Answer.{done}
 use Rattle.cube.specs.Vector.{vec, finiteVector, isZero}
 use Rattle.cube.specs.Faces.{byFace, along, absolute, faceOf, pointAt}

@@ -1,4 +1,4 @@
--- 1 and -1: a factor of either changes nothing but the sign, and a quotient lies from -1 to 1 where the first is no greater in size than the second.
+-- 1 and -1: a factor of either changes nothing but the sign, x / 1 is x, a zero with its sign, and a quotient lies from -1 to 1 where the first is no greater in size than the second.
 use mathlib.Core.Path.{_≡_, refl, sym, ap, subst, _∙_}
 use mathlib.Core.Bool.{Bool, true, false}
 use Prim.Native.Nat.{ℕ, _*_, _^_, _≤_, _<_}
@@ -10,7 +10,7 @@ use lib.Dec.{T}
 use lib.IntN.{pos, negℤ, _*ℤ_}
 use lib.Ieee.{Float, nan, inf, fin, Format, binary32, binary64, low, unlike, round, neg, mul, div, eq, fits}
 use lib.Ieee.Bits.{is-true}
-use lib.Ieee.Fits.{round-fits, neg-fits}
+use lib.Ieee.Fits.{round-fits, neg-fits, div-fits}
 use lib.Ieee.Scale.{overflow, round-same}
 use Rattle.float.specs.Float.{magnitudeOf, signBit}
 use Rattle.float.specs.Exact.{mag, signed, units, Value}
@@ -86,6 +86,20 @@ pub neg-value : {f : Format} {x : Float} → Value f x → Value f (neg x)
 neg-value {f} {x} v = record { is-finite = is-finite (neg-is (held v .is-own)); held = is-true _ (neg-fits f x (subst T (sym (v .held)) tt)) }
 
 -- ---- a quotient
+unlike-plain : (s : Bool) → unlike s false ≡ s
+unlike-plain true = refl
+unlike-plain false = refl
+
+pub div-one : (f : Format) (x : Float) → Value f x → div f x (one false) ≡ x
+div-one f x v =
+    let h = held v in
+    let s = signBit x in
+    let n = mag f x in
+    let l = 2 ^ low f in
+    let e : div f x (one false) ≡ round f s n l = div-is (h .is-own) (one-is f false) (pow-pos (low f)) ∙ (rw (unlike-plain s)) in
+    let i = round-fix (h .mag-rep) (h .mag-under) s n l (pow-pos (low f)) refl in
+    same (div-fits f x (one false)) (subst T (sym (v .held)) tt) (rw e i) (h .is-own)
+
 module _ {f : Format} {x y : Float} {s t : Bool} {a b : ℕ} (p : Is f x s a) (q : Is f y t b) (B : 0 < b) where
   -- of two that are equal in size
   pub quotient-one : a ≡ b → div f x y ≡ one (unlike s t)
