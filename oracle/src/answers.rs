@@ -3,6 +3,7 @@
 use crate::number::{Answer, Number, DONE, NO_SUCH_OPERATION};
 use crate::stream::{answer_records, hex, words, write_line};
 use crate::words::{shown, Arguments};
+use crate::zeros::{settle, Zeros};
 use crate::{clip, cube, line, plane, walk};
 use std::io::{self, Write};
 
@@ -15,17 +16,36 @@ const BUFFER: usize = 400;
 /// What every byte of a buffer is before the walk.
 const UNTOUCHED: u8 = 0xa5;
 
-pub fn run() -> io::Result<()> {
-    answer_records(|record: &[u8; 8 * REQUEST], output| answer(&words(record), output))
+pub fn run(zeros: Zeros) -> io::Result<()> {
+    answer_records(|record: &[u8; 8 * REQUEST], output| answer(&words(record), zeros, output))
 }
 
-pub fn answer(request: &[u64; REQUEST], output: &mut impl Write) -> io::Result<()> {
-    let (operation, arguments) = (request[0], &mut Arguments::new(&request[1..]));
+/// The words after the arguments are ignored, so they may be zeros.
+pub fn request(operation: u64, arguments: &[u64]) -> [u64; REQUEST] {
+    let mut request = [0; REQUEST];
+    request[0] = operation;
+    request[1..=arguments.len()].copy_from_slice(arguments);
+    request
+}
+
+pub fn answer(request: &[u64; REQUEST], zeros: Zeros, output: &mut impl Write) -> io::Result<()> {
+    let (operation, arguments) = (request[0], &request[1..]);
     if operation == 60 {
-        write_walk(arguments, output)
-    } else {
-        write_line(output, &results(operation, arguments))
+        return write_walk(&mut Arguments::new(arguments), output);
     }
+    let mut answer = results(operation, &mut Arguments::new(arguments));
+    if let (Ok(results), Zeros::Ours) = (&mut answer, zeros) {
+        settle(operation, arguments, results);
+    }
+    write_line(output, &answer)
+}
+
+/// The line of a request, its end of line too.
+#[cfg(test)]
+pub fn line_of(request: &[u64; REQUEST], zeros: Zeros) -> String {
+    let mut line = Vec::new();
+    answer(request, zeros, &mut line).expect("memory can be written");
+    String::from_utf8(line).expect("a line is text")
 }
 
 /// Rust takes arguments from left to right, so each function's own signature reads the request.

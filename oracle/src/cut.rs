@@ -8,7 +8,7 @@ use crate::words::{shown, Arguments};
 use std::io;
 
 /// Words of a record: a, b, the window's low corner and its high corner.
-const RECORD: usize = 8;
+pub const RECORD: usize = 8;
 
 pub fn run(clip_edge: fn(Point, Point, Rect) -> Answer<(Point, Point)>) -> io::Result<()> {
     answer_records(|record: &[u8; 8 * RECORD], output| {

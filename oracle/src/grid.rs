@@ -1,6 +1,7 @@
 //! `oracle grid`: every request over short lists of words, operation by operation.
 
-use crate::answers::REQUEST;
+use crate::answers::request;
+use crate::stream::write_words;
 use std::io::{self, BufWriter, Write};
 
 /// Operations and, for each word of their arguments, the list that it runs through: F, A, D 0 to 7; b 0 to 2; L a few
@@ -63,7 +64,7 @@ const LAST: u64 = 300;
 pub fn run() -> io::Result<()> {
     let mut output = BufWriter::with_capacity(1 << 16, io::stdout().lock());
     for operation in 0..=LAST {
-        write_request(&mut output, operation, &[])?;
+        write_words(&mut output, &request(operation, &[]))?;
     }
     for (operation, arguments) in GRID {
         let lists: Vec<Vec<u64>> = arguments.chars().map(list).collect();
@@ -75,7 +76,7 @@ pub fn run() -> io::Result<()> {
 /// Writes a request for each choice from the lists that go on from the words chosen already.
 fn write_all(output: &mut impl Write, operation: u64, lists: &[Vec<u64>], chosen: &mut Vec<u64>) -> io::Result<()> {
     let Some((list, rest)) = lists.split_first() else {
-        return write_request(output, operation, chosen);
+        return write_words(output, &request(operation, chosen));
     };
     for word in list {
         chosen.push(*word);
@@ -83,13 +84,6 @@ fn write_all(output: &mut impl Write, operation: u64, lists: &[Vec<u64>], chosen
         chosen.pop();
     }
     Ok(())
-}
-
-fn write_request(output: &mut impl Write, operation: u64, arguments: &[u64]) -> io::Result<()> {
-    let mut request = [0; REQUEST];
-    request[0] = operation;
-    request[1..=arguments.len()].copy_from_slice(arguments);
-    request.iter().try_for_each(|word| output.write_all(&word.to_le_bytes()))
 }
 
 fn list(letter: char) -> Vec<u64> {

@@ -1,18 +1,14 @@
 //! Document 01's instances, P1 to P14 and those beside them, asked as requests.
 
-use crate::answers::{answer, REQUEST};
+use crate::answers::{line_of, request};
+use crate::zeros::Zeros;
 
 const NAN: f64 = f64::NAN;
 /// The window of P1, P2 and P5, and an operation's words for a line that is kept.
 const WINDOW: [f64; 4] = [1.0, 0.0, 3.0, 2.0];
 
 fn ask(operation: u64, arguments: &[u64]) -> String {
-    let mut request = [0; REQUEST];
-    request[0] = operation;
-    request[1..=arguments.len()].copy_from_slice(arguments);
-    let mut line = Vec::new();
-    answer(&request, &mut line).expect("memory can be written");
-    String::from_utf8(line).expect("a line is text")
+    line_of(&request(operation, arguments), Zeros::Crates)
 }
 
 fn ask_floats(operation: u64, floats: &[f64]) -> String {

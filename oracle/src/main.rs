@@ -13,6 +13,7 @@ mod floats;
 mod grid;
 #[cfg(test)]
 mod instances;
+mod likeness;
 mod line;
 mod number;
 mod operations;
@@ -27,6 +28,7 @@ mod stream;
 mod walk;
 mod whole;
 mod words;
+mod zeros;
 
 // The crate's files look for each other here, and for `libm` among the crates beside them.
 use crate_s2::missing::remquo;
@@ -35,15 +37,17 @@ extern crate self as libm;
 
 use std::process::ExitCode;
 use std::{env, io};
+use zeros::Zeros;
 
 const USAGE: &str = "\
 oracle cut < RECORDS            a line for each 64-byte record, as document 01's program writes it
 oracle crate-cut < RECORDS      the same from the crate alone, nothing refused: a dead sample is drawn
 oracle records KIND N SEED      N seeded records; KIND is bits or edges
 oracle answers < REQUESTS       a line for each 192-byte request, as the answering program writes it
+oracle list < REQUESTS          the same, but where the crate leaves a zero's sign open it is as our definitions have it
 oracle requests N SEED          N seeded requests, every operation among them
 oracle grid                     every request over short lists of words
-oracle same A B                 compares two files of lines; 1 when they differ";
+oracle same PROGRAM INPUT A B   compares two files of PROGRAM's lines to INPUT; 1 when they differ; cut or answers";
 
 fn main() -> ExitCode {
     let arguments: Vec<String> = env::args().skip(1).collect();
@@ -63,11 +67,12 @@ fn run(arguments: &[&str]) -> io::Result<bool> {
     match arguments {
         ["cut"] => cut::run(clip::clip_edge)?,
         ["crate-cut"] => cut::run(clip::clip_edge_unrefused)?,
-        ["answers"] => answers::run()?,
+        ["answers"] => answers::run(Zeros::Crates)?,
+        ["list"] => answers::run(Zeros::Ours)?,
         ["requests", count, seed] => requests::run(whole(count)?, whole(seed)?)?,
         ["grid"] => grid::run()?,
         ["records", kind, count, seed] => records::run(kind, whole(count)?, whole(seed)?)?,
-        ["same", one, other] => return same::run(one, other),
+        ["same", program, input, one, other] => return same::run(program, input, one, other),
         _ => return Err(io::Error::other(format!("usage:\n{USAGE}"))),
     }
     Ok(true)

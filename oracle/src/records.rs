@@ -12,6 +12,7 @@
 
 use crate::floats::{neighbour, not_finite, zero, Family};
 use crate::random::Random;
+use crate::stream::write_words;
 use std::io::{self, BufWriter, Write};
 
 /// a.x, a.y, b.x, b.y, window low x, low y, high x, high y: a point's or corner's coordinate on an axis is 2 apart.
@@ -31,9 +32,7 @@ pub fn run(kind: &str, count: u64, seed: u64) -> io::Result<()> {
     let mut random = Random::new(seed);
     let mut output = BufWriter::with_capacity(1 << 16, io::stdout().lock());
     for _ in 0..count {
-        for value in make(&mut random) {
-            output.write_all(&value.to_bits().to_le_bytes())?;
-        }
+        write_words(&mut output, &make(&mut random).map(f64::to_bits))?;
     }
     output.flush()
 }

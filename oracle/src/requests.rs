@@ -13,6 +13,7 @@ use crate::floats::{neighbour, not_finite, zero, Family};
 use crate::operations::{kinds, HARD, OPERATIONS};
 use crate::random::Random;
 use crate::shapes;
+use crate::stream::write_words;
 use std::io::{self, BufWriter, Write};
 
 #[derive(Clone, Copy)]
@@ -28,9 +29,7 @@ pub fn run(count: u64, seed: u64) -> io::Result<()> {
     let mut random = Random::new(seed);
     let mut output = BufWriter::with_capacity(1 << 16, io::stdout().lock());
     for done in 1..=count {
-        for word in request(&mut random) {
-            output.write_all(&word.to_le_bytes())?;
-        }
+        write_words(&mut output, &request(&mut random))?;
         if done % PROGRESS == 0 && count > PROGRESS {
             eprintln!("requests: {done} of {count}");
         }
@@ -38,7 +37,7 @@ pub fn run(count: u64, seed: u64) -> io::Result<()> {
     output.flush()
 }
 
-fn request(random: &mut Random) -> [u64; REQUEST] {
+pub fn request(random: &mut Random) -> [u64; REQUEST] {
     let operation = operation(random);
     let mut arguments = match operation {
         30..=35 if !random.once_in(4) => shapes::around_edge(random, operation),
@@ -81,7 +80,7 @@ fn plain_arguments(random: &mut Random, operation: u64) -> Vec<Word> {
     let shared = Family::any(random);
     let mixed = random.once_in(8);
     let mut arguments = Vec::new();
-    for kind in kinds(operation).chars() {
+    for kind in kinds(operation).0.chars() {
         let family = if mixed { Family::any(random) } else { shared };
         match kind {
             'F' => arguments.push(Word::Plain(limited(random, 5))),

@@ -1,61 +1,84 @@
-//! `oracle same`: two files of lines, compared as document 01 takes numbers.
+//! `oracle same`: two files of lines, compared as document 01 takes numbers. What was asked tells which words of a line
+//! are floats.
 
+use crate::answers::REQUEST;
+use crate::cut::RECORD;
+use crate::likeness::{compare, Likeness, Likeness::*};
+use crate::operations::kinds;
+use crate::stream::{read_full, words};
+use std::fmt;
 use std::fs::File;
-use std::io::{self, BufRead, BufReader, Write};
+use std::io::{self, BufRead, BufReader, Read, Write};
 
 /// So many differences are shown, the rest only counted.
 const SHOWN: usize = 10;
 
-/// Digits of a word.
-const GROUP: usize = 16;
-
-/// Digits of a walk's record, its floats from the second group on.
-const RECORD: usize = 5 * GROUP;
-
-/// From best to worst.
-#[derive(Clone, Copy, PartialEq, Eq, PartialOrd, Ord)]
-enum Likeness {
-    Same,
-    /// The same numbers, though somewhere a zero has the other sign.
-    SameButForAZero,
-    Different,
+/// Says whether the files of lines agree; what it finds is on standard output. `asked` is the file that the program
+/// called `program` read.
+pub fn run(program: &str, asked: &str, one: &str, other: &str) -> io::Result<bool> {
+    let found = look(program, open(asked)?, open(one)?, open(other)?)?;
+    writeln!(io::stdout(), "{found}")?;
+    Ok(found.different == 0)
 }
 
-use Likeness::*;
-
-/// Says whether the files agree; what it finds is on standard output.
-pub fn run(one: &str, other: &str) -> io::Result<bool> {
-    let (mut one, mut other) = (open(one)?, open(other)?);
-    let (mut lines, mut zeros, mut different) = (0u64, 0u64, 0u64);
-    let mut first_different = Vec::new();
-    let (mut a, mut b) = (Vec::new(), Vec::new());
+/// There has to be a line for each record that was asked, and one for a torn end.
+fn look(program: &str, mut asked: impl Read, mut one: impl BufRead, mut other: impl BufRead) -> io::Result<Found> {
+    let (size, results): (usize, fn(&[u8]) -> &'static str) = match program {
+        "cut" => (8 * RECORD, |_| kinds(34).1),
+        "answers" => (8 * REQUEST, |request| kinds(words::<1>(request)[0]).1),
+        _ => return Err(io::Error::other(format!("no program is called {program:?}: cut, answers"))),
+    };
+    let (mut record, mut a, mut b) = (vec![0; size], Vec::new(), Vec::new());
+    let mut found = Found::default();
     loop {
+        let length = read_full(&mut asked, &mut record)?;
         next_line(&mut one, &mut a)?;
         next_line(&mut other, &mut b)?;
-        if a.is_empty() && b.is_empty() {
-            break;
+        match length {
+            0 if a.is_empty() && b.is_empty() => return Ok(found),
+            0 => found.count(Different, &a, &b),
+            _ if length < size => found.count(compare("", &a, &b), &a, &b),
+            _ => found.count(compare(results(&record), &a, &b), &a, &b),
         }
-        lines += 1;
-        match compare(&a, &b) {
+    }
+}
+
+#[derive(Default)]
+struct Found {
+    lines: u64,
+    zeros: u64,
+    different: u64,
+    first_different: Vec<String>,
+}
+
+impl Found {
+    fn count(&mut self, likeness: Likeness, a: &[u8], b: &[u8]) {
+        self.lines += 1;
+        match likeness {
             Same => {}
-            SameButForAZero => zeros += 1,
+            SameButForAZero => self.zeros += 1,
             Different => {
-                different += 1;
-                if first_different.len() < SHOWN {
-                    first_different.push(format!("line {lines}:\n  {}\n  {}", shown(&a), shown(&b)));
+                self.different += 1;
+                if self.first_different.len() < SHOWN {
+                    self.first_different.push(format!("\nline {}:\n  {}\n  {}", self.lines, shown(a), shown(b)));
                 }
             }
         }
     }
-    let zeros = match zeros {
-        0 => String::new(),
-        _ => format!(" ({zeros} with a zero of the other sign)"),
-    };
-    match different {
-        0 => writeln!(io::stdout(), "{lines} lines, all the same{zeros}")?,
-        _ => writeln!(io::stdout(), "{lines} lines, {different} different{zeros}\n{}", first_different.join("\n"))?,
+}
+
+impl fmt::Display for Found {
+    fn fmt(&self, f: &mut fmt::Formatter) -> fmt::Result {
+        write!(f, "{} lines, ", self.lines)?;
+        match self.different {
+            0 => write!(f, "all the same")?,
+            different => write!(f, "{different} different")?,
+        }
+        if self.zeros > 0 {
+            write!(f, " ({} with a zero of the other sign)", self.zeros)?;
+        }
+        write!(f, "{}", self.first_different.concat())
     }
-    Ok(different == 0)
 }
 
 fn open(name: &str) -> io::Result<BufReader<File>> {
@@ -77,121 +100,41 @@ fn shown(line: &[u8]) -> String {
     }
 }
 
-fn compare(a: &[u8], b: &[u8]) -> Likeness {
-    if a == b {
-        return Same;
-    }
-    let (Some(a), Some(b)) = (carried(a), carried(b)) else { return Different };
-    match (a.as_slice(), b.as_slice()) {
-        ([a_count, a_buffer], [b_count, b_buffer]) if a_buffer.len() > GROUP => {
-            compare_bytes(a_count, b_count).max(compare_buffers(a_count, a_buffer, b_buffer))
-        }
-        _ if a.len() == b.len() => {
-            a.iter().zip(&b).map(|(a, b)| compare_floats(word(a), word(b))).max().unwrap_or(Same)
-        }
-        _ => Different,
-    }
-}
-
-/// The groups after a 0. After another number the text itself counts: a refused walk's line shows its whole buffer.
-fn carried(line: &[u8]) -> Option<Vec<&[u8]>> {
-    let groups = line.strip_prefix(b"0 ")?.strip_suffix(b"\n")?;
-    Some(groups.split(|byte| *byte == b' ').collect())
-}
-
-/// A walk's buffer: in the records that were written the floats are numbers; all else is bytes.
-fn compare_buffers(count: &[u8], a: &[u8], b: &[u8]) -> Likeness {
-    let written = word(count).map_or(0, |count| (count as usize).saturating_mul(RECORD));
-    let (Some((a, a_rest)), Some((b, b_rest))) = (a.split_at_checked(written), b.split_at_checked(written)) else {
-        return Different;
-    };
-    let mut likeness = compare_bytes(a_rest, b_rest);
-    for (place, (a, b)) in a.chunks(GROUP).zip(b.chunks(GROUP)).enumerate() {
-        likeness = likeness.max(match place * GROUP % RECORD {
-            0 => compare_bytes(a, b),
-            _ => compare_floats(word(a).map(u64::swap_bytes), word(b).map(u64::swap_bytes)),
-        });
-    }
-    likeness
-}
-
-fn compare_bytes(a: &[u8], b: &[u8]) -> Likeness {
-    if a == b {
-        Same
-    } else {
-        Different
-    }
-}
-
-fn compare_floats(a: Option<u64>, b: Option<u64>) -> Likeness {
-    let (Some(a), Some(b)) = (a.map(f64::from_bits), b.map(f64::from_bits)) else { return Different };
-    if a.to_bits() == b.to_bits() || a.is_nan() && b.is_nan() {
-        Same
-    } else if a == b {
-        SameButForAZero
-    } else {
-        Different
-    }
-}
-
-/// The value of 16 lower-case hex digits.
-fn word(group: &[u8]) -> Option<u64> {
-    let lower_case = |byte: &u8| matches!(byte, b'0'..=b'9' | b'a'..=b'f');
-    if group.len() != GROUP || !group.iter().all(lower_case) {
-        return None;
-    }
-    u64::from_str_radix(std::str::from_utf8(group).ok()?, 16).ok()
-}
-
 #[cfg(test)]
 mod tests {
     use super::*;
+    use crate::answers::request;
+    use crate::stream::write_words;
 
-    const RECORDS: &str = "0000000000000000 000000000000f03f 0000000000000080 000000000000f87f 0000000000000040";
-
-    fn walk(records: &str, rest: &str) -> String {
-        format!("0 0000000000000001 {}{rest}\n", records.replace(' ', ""))
-    }
-
-    fn likeness(a: &str, b: &str) -> Likeness {
-        assert!(compare(a.as_bytes(), b.as_bytes()) == compare(b.as_bytes(), a.as_bytes()), "it goes both ways");
-        compare(a.as_bytes(), b.as_bytes())
-    }
-
-    #[test]
-    fn lines() {
-        let line = "0 0000000000000000 7ff8000000000000\n";
-        assert!(likeness(line, "0 8000000000000000 7ff8000000000000\n") == SameButForAZero);
-        assert!(likeness(line, "0 0000000000000000 fff0000000000001\n") == Same);
-        for other in [
-            "0 0000000000000001 7ff8000000000000\n",
-            "0 0000000000000000 7ff0000000000000\n",
-            "0 0000000000000000 7FF8000000000000\n",
-            "0 0000000000000000 7ff8000000000000",
-            "0 0000000000000000\n",
-            "0  0000000000000000 7ff8000000000000\n",
-            "0\n",
-            "1\n",
-            "",
-        ] {
-            assert!(likeness(line, other) == Different, "{other:?}");
+    /// Lines that are not the same and lines with a zero of the other sign, where a product, a line test and a torn end
+    /// are asked.
+    fn found(one: &str, other: &str) -> (u64, u64) {
+        let mut asked = Vec::new();
+        for operation in [5, 51] {
+            write_words(&mut asked, &request(operation, &[])).expect("memory can be written");
         }
-        assert!(likeness("1 0000000000000000\n", "1 8000000000000000\n") == Different);
+        asked.push(0);
+        let found = look("answers", asked.as_slice(), one.as_bytes(), other.as_bytes()).expect("memory can be read");
+        (found.different, found.zeros)
     }
 
     #[test]
-    fn walks() {
-        let line = walk(RECORDS, "a5a5");
-        assert!(likeness(&line, &walk(&RECORDS.replace("80 ", "00 "), "a5a5")) == SameButForAZero);
-        assert!(likeness(&line, &walk(&RECORDS.replace("f87f", "f8ff"), "a5a5")) == Same);
-        assert!(likeness(&line, &walk(&RECORDS.replace("f03f", "f0bf"), "a5a5")) == Different);
-        assert!(likeness(&line, &walk(&RECORDS.replacen('0', "8", 1), "a5a5")) == Different);
-        assert!(
-            likeness(&line, &walk(&RECORDS.replacen("00 ", "80 ", 1), "a5a5")) == Different,
-            "a byte before floats"
-        );
-        assert!(likeness(&line, &walk(RECORDS, "a5a4")) == Different);
-        assert!(likeness(&line, &walk(RECORDS, "a5")) == Different);
-        assert!(likeness(&line, &line.replace("0001 ", "0002 ")) == Different);
+    fn files() {
+        let lines = "0 0000000000000000\n0 0000000000000000\n9\n";
+        assert_eq!(found(lines, lines), (0, 0));
+        assert_eq!(found(lines, "0 8000000000000000\n0 0000000000000000\n9\n"), (0, 1), "a float");
+        assert_eq!(found(lines, "0 0000000000000000\n0 8000000000000000\n9\n"), (1, 0), "no is not -0");
+        assert_eq!(found(lines, "0 0000000000000000\n0 0000000000000000\n"), (1, 0), "a line is missing");
+        assert_eq!(found("0 0000000000000000\n", "0 0000000000000000\n"), (2, 0), "two are missing in both");
+        let more = format!("{lines}9\n");
+        assert_eq!(found(&more, &more), (1, 0), "nobody asked for the last");
+    }
+
+    #[test]
+    fn cuts() {
+        let minus = "0 0000000000000000 0000000000000000 0000000000000000 8000000000000000\n";
+        let plus = minus.replace('8', "0");
+        let found = look("cut", [0; 64].as_slice(), minus.as_bytes(), plus.as_bytes()).expect("memory can be read");
+        assert_eq!((found.lines, found.different, found.zeros), (1, 0, 1));
     }
 }

@@ -26,7 +26,7 @@ pub fn answer_records<const SIZE: usize>(
 }
 
 /// Fills the block as far as the input goes: a pipe may hand over less than it is asked for.
-fn read_full(input: &mut impl Read, block: &mut [u8]) -> io::Result<usize> {
+pub fn read_full(input: &mut impl Read, block: &mut [u8]) -> io::Result<usize> {
     let mut length = 0;
     while length < block.len() {
         match input.read(&mut block[length..]) {
@@ -46,6 +46,10 @@ pub fn words<const COUNT: usize>(bytes: &[u8]) -> [u64; COUNT] {
         *word = u64::from_le_bytes(*bytes);
     }
     words
+}
+
+pub fn write_words(output: &mut impl Write, words: &[u64]) -> io::Result<()> {
+    words.iter().try_for_each(|word| output.write_all(&word.to_le_bytes()))
 }
 
 /// The line of an answer: `0` and a group of 16 digits for each word, or the number alone.
