@@ -1,160 +1,214 @@
-//! docs/DIFFERENCES.md, entry by entry: what the crate itself answers, asked with no refusal before it.
+//! docs/DIFFERENCES.md, entry by entry: what the crate itself answers, asked with no refusal before it. The inputs are
+//! those of the requests that keep the entry, so that the page, the stored list and these tests have the same bits.
 
-use crate::line::Axis;
+mod cube;
+
+use crate::kept::{KEPT, LEFT_OUT};
 use crate::r1::interval::Interval;
 use crate::r2::{point::Point, rect::Rect};
-use crate::r3::vector::Vector;
-use crate::s2::edge_clipping::{clip_edge, private};
-use crate::s2::stuv;
+use crate::s2::edge_clipping::{self, private};
+use crate::whole;
+use crate::words::Arguments;
 
-const NAN: f64 = f64::NAN;
-
-fn interval(lo: f64, hi: f64) -> Interval {
-    Interval { lo, hi }
+/// The arguments of all requests that keep an entry, one for each of these operations.
+fn asked<const COUNT: usize>(name: &str, operations: [u64; COUNT]) -> [Arguments<'static>; COUNT] {
+    let kept: Vec<_> = KEPT.iter().filter(|(entry, _, _)| *entry == name).collect();
+    assert_eq!(kept.iter().map(|(_, operation, _)| *operation).collect::<Vec<_>>(), operations, "{name}");
+    std::array::from_fn(|place| Arguments::new(kept[place].2))
 }
 
-fn rect(x: (f64, f64), y: (f64, f64)) -> Rect {
-    Rect { x: interval(x.0, x.1), y: interval(y.0, y.1) }
+fn left_out(name: &str) -> Arguments<'static> {
+    let (_, words) = LEFT_OUT.iter().find(|(entry, _)| *entry == name).expect("an entry that is left out");
+    Arguments::new(words)
 }
 
-fn point(x: f64, y: f64) -> Point {
-    Point { x, y }
+fn bits<const COUNT: usize>(floats: [f64; COUNT]) -> [u64; COUNT] {
+    floats.map(f64::to_bits)
 }
 
-fn bits(floats: &[f64]) -> Vec<u64> {
-    floats.iter().map(|float| float.to_bits()).collect()
+fn ends(interval: Interval) -> [f64; 2] {
+    [interval.lo, interval.hi]
 }
 
-fn cut(a: (f64, f64), b: (f64, f64), window: Rect) -> Option<[f64; 4]> {
-    let (kept_a, kept_b, kept) = clip_edge(point(a.0, a.1), point(b.0, b.1), window);
+fn sides(rect: Rect) -> [f64; 4] {
+    [rect.x.lo, rect.x.hi, rect.y.lo, rect.y.hi]
+}
+
+/// Operation 34's arguments: the points that are kept.
+fn cut(a: &mut Arguments) -> Option<[f64; 4]> {
+    let (kept_a, kept_b, kept) = edge_clipping::clip_edge(a.take(), a.take(), a.take());
     kept.then_some([kept_a.x, kept_a.y, kept_b.x, kept_b.y])
 }
 
-fn meets(a: (f64, f64), b: (f64, f64), window: Rect) -> bool {
-    private::edge_intersects_rect(point(a.0, a.1), point(b.0, b.1), &window)
+/// Operation 35's arguments.
+fn meets(a: &mut Arguments) -> bool {
+    private::edge_intersects_rect(a.take(), a.take(), &a.take())
+}
+
+/// Operation 30's arguments.
+fn interpolate(a: &mut Arguments) -> f64 {
+    private::interpolate(a.take(), a.take(), a.take(), a.take(), a.take())
+}
+
+/// Operation 32's arguments.
+fn clip_bound_axis(a: &mut Arguments) -> (Interval, Interval, bool) {
+    private::clip_bound_axis(a.take(), a.take(), a.take(), a.take(), a.take(), a.take(), a.take(), a.take())
 }
 
 #[test]
 fn d1_product_of_two_points() {
-    let product = point(2.0, 3.0) * point(5.0, 7.0);
+    let mut a = left_out("D1");
+    let product = a.take::<Point>() * a.take::<Point>();
     assert_eq!([product.x, product.y], [4.0, 49.0]);
 }
 
 #[test]
 fn d2_a_nan_equals_every_point() {
-    let (dead, five, six) = (point(NAN, 0.0), point(5.0, 0.0), point(6.0, 0.0));
+    let mut a = left_out("D2");
+    let (dead, five, six): (Point, Point, Point) = (a.take(), a.take(), a.take());
     assert!(dead == five && dead == six && five != six);
 }
 
 #[test]
-fn d3_empty_by_its_y_axis_alone() {
-    let unit = rect((0.0, 1.0), (0.0, 1.0));
-    assert!(!rect((0.0, 1.0), (1.0, 0.0)).is_empty());
-    let empty = rect((1.0, 0.0), (5.0, 6.0));
-    assert!(empty.is_empty() && !unit.contains(&empty));
-    let union = unit.union(&empty);
-    assert_eq!([union.x.lo, union.x.hi, union.y.lo, union.y.hi], [0.0, 1.0, 0.0, 6.0]);
+fn d3_empty_by_its_x_axis_alone() {
+    let [mut empty_on_y, mut contained, mut united] = asked("D3", [24, 26, 28]);
+    assert!(!empty_on_y.take::<Rect>().is_empty());
+    let (unit, empty_on_x): (Rect, Rect) = (contained.take(), contained.take());
+    assert!(empty_on_x.is_empty() && !unit.contains(&empty_on_x));
+    let (unit, empty_on_x): (Rect, Rect) = (united.take(), united.take());
+    assert_eq!(sides(unit.union(&empty_on_x)), [0.0, 1.0, 0.0, 6.0]);
 }
 
 #[test]
 fn d4_a_dead_sample_draws_a_level_line() {
-    let window = rect((1.0, 3.0), (0.0, 2.0));
-    assert_eq!(cut((0.0, 0.0), (4.0, NAN), window), Some([1.0, 0.0, 3.0, 0.0]));
+    let [mut in_b, mut in_a, mut infinite] = asked("D4", [34, 34, 34]);
+    assert_eq!(cut(&mut in_b), Some([1.0, 0.0, 3.0, 0.0]));
+    let [ax, ay, bx, by] = cut(&mut in_a).expect("it is kept");
+    assert!(ax == 1.0 && ay.is_nan() && bx == 3.0 && by.is_nan());
+    assert_eq!(cut(&mut infinite), Some([1.0, 0.0, 3.0, 0.0]));
 }
 
 #[test]
 fn d5_a_window_of_nans_keeps_everything() {
-    let window = rect((NAN, NAN), (NAN, NAN));
-    assert_eq!(cut((0.0, 0.0), (4.0, 2.0), window), Some([0.0, 0.0, 4.0, 2.0]));
+    let [mut a] = asked("D5", [34]);
+    assert_eq!(cut(&mut a), Some([0.0, 0.0, 4.0, 2.0]));
 }
 
 #[test]
 fn d6_interpolate_at_an_end() {
-    let (low, high) = (f64::from_bits(0xffe0_0000_0000_0000), f64::from_bits(0x7fe0_0000_0000_0000));
-    assert!(private::interpolate(0.0, 0.0, 1.0, low, high).is_nan());
-    assert!(private::interpolate(1.0, 0.0, 1.0, low, high).is_nan());
-    assert_eq!(private::interpolate(1.0, 1.0, 1.0, 2.0, 3.0), 2.0);
+    let [mut at_a, mut at_b, mut at_both] = asked("D6", [30, 30, 30]);
+    assert!(interpolate(&mut at_a).is_nan() && interpolate(&mut at_b).is_nan());
+    assert_eq!(interpolate(&mut at_both), 2.0);
 }
 
 #[test]
 fn d7_interpolate_past_an_end() {
-    let (half, whole) = (2f64.powi(512), 2f64.powi(513));
-    assert_eq!(private::interpolate(half, 0.0, whole, 0.0, half), f64::INFINITY);
-    let [x, b, a1, b1] = [0x1e54_7ae1_47ae_147b, 0x1e64_7ae1_47ae_147b, 0x9b00_0000_0000_0000, 0x1e58_ffff_ffff_ffff]
-        .map(f64::from_bits);
-    assert_eq!(private::interpolate(x, 0.0, b, a1, b1).to_bits(), 0x1e59_0000_0000_0000);
+    let [mut overflow, mut underflow, mut falling] = asked("D7", [30, 30, 30]);
+    assert_eq!(interpolate(&mut overflow), f64::INFINITY);
+    assert_eq!(interpolate(&mut underflow).to_bits(), 0x1e59_0000_0000_0000);
+    assert_eq!(interpolate(&mut falling), 0.5);
 }
 
 #[test]
 fn d8_a_point_window_on_the_line_and_one_beside_it() {
-    assert_eq!(cut((0.0, 0.0), (0.2, 0.2), rect((0.1, 0.1), (0.1, 0.1))), None);
-    assert_eq!(cut((0.0, 0.1), (0.2, 0.3), rect((0.1, 0.1), (0.2, 0.2))), Some([0.1, 0.2, 0.1, 0.2]));
+    let [mut on_it, mut beside_it] = asked("D8", [34, 34]);
+    assert!(cut(&mut on_it).is_none() && whole::sum_equal(0.1, 0.1, 0.2), "(0.1,0.1) is the edge's middle");
+    assert_eq!(cut(&mut beside_it), Some([0.1, 0.2, 0.1, 0.2]));
+    assert!(!whole::sum_equal(0.1, 0.3, 2.0 * 0.2), "(0.1,0.2) is not");
 }
 
 #[test]
 fn d9_a_missed_bound_is_not_the_original_one() {
-    let (a, b) = (point(0.0, 0.0), point(1.0, 1.0));
-    let (bound, kept) = private::clip_edge_bound(a, b, rect((0.0, 0.25), (0.75, 1.0)), rect((0.0, 1.0), (0.0, 1.0)));
+    let [mut a] = asked("D9", [33]);
+    let (bound, kept) = private::clip_edge_bound(a.take(), a.take(), a.take(), a.take());
     assert!(!kept);
-    assert_eq!([bound.x.lo, bound.x.hi, bound.y.lo, bound.y.hi], [0.0, 0.25, 0.0, 0.25]);
+    assert_eq!(sides(bound), [0.0, 0.25, 0.0, 0.25]);
 }
 
 #[test]
-fn d10_edge_intersects_rect_by_a_nan_and_by_underflow() {
-    let huge = 2f64.powi(1023);
-    assert!(!meets((-huge, 0.0), (-huge, 0.0), rect((-huge, huge), (0.0, 0.0))));
-    let u = 2f64.powi(-540);
-    assert!(meets((0.0, 0.0), (4.0 * u, 2.0 * u), rect((2.0 * u, 2.0 * u), (2.0 * u, 2.0 * u))));
+fn d10_edge_intersects_rect_beyond_its_bound() {
+    let [mut far_points, mut through_it, mut past_it, mut tiny] = asked("D10", [35, 35, 35, 35]);
+    assert!(meets(&mut far_points));
+    // The window's point is A x B / |AB| = 2^-44 / |AB| from the line, and |AB| is less than 45.26.
+    assert!(2f64.powi(-44) / 45.26 > 1.3 * private::INTERSECT_RECT_ERROR_UV_DIST);
+    assert!(!meets(&mut through_it), "by a NaN");
+    assert!(meets(&mut past_it), "by an overflow");
+    assert!(meets(&mut tiny), "by an underflow");
 }
 
 #[test]
 fn d11_a_cut_value_far_from_the_line() {
+    let [mut a] = asked("D11", [34]);
     let step = f64::from_bits(1);
-    assert_eq!(private::interpolate(step, 0.0, 2.0 * step, 0.0, 0.5), 0.0);
-    assert_eq!(cut((0.0, 0.0), (2.0 * step, 0.5), rect((step, 1.0), (0.0, 1.0))), Some([step, 0.0, 2.0 * step, 0.5]));
+    let kept = cut(&mut a).expect("it is kept");
+    assert_eq!(kept, [step, 0.0, 2.0 * step, 0.5]);
+    assert!(0.25 - kept[1] > private::EDGE_CLIP_ERROR_UV_COORD);
 }
 
 #[test]
 fn d12_the_interval_of_two_zeros() {
-    let pair = Interval::from_point_pair(0.0, -0.0);
-    assert_eq!(bits(&[pair.lo, pair.hi]), bits(&[0.0, -0.0]));
-    let added = Interval::from_point(0.0) + -0.0;
-    assert_eq!(bits(&[added.lo, added.hi]), bits(&[0.0, 0.0]));
+    let [mut a] = asked("D12", [17]);
+    let (plus, minus) = (a.take(), a.take());
+    assert_eq!(bits(ends(Interval::from_point_pair(plus, minus))), bits([0.0, -0.0]));
+    assert_eq!(bits(ends(Interval::from_point(plus) + minus)), bits([0.0, 0.0]));
+}
+
+/// Which zero it is the standard library leaves open.
+#[test]
+fn d18_the_zeros_of_union_and_intersection() {
+    let [mut union, mut intersection] = asked("D18", [14, 15]);
+    assert_eq!(ends(union.take::<Interval>().union(&union.take())), [0.0, 0.0]);
+    assert_eq!(ends(intersection.take::<Interval>().intersection(&intersection.take())), [0.0, 0.0]);
 }
 
 #[test]
-fn d13_the_zero_vector_has_a_face() {
-    let (face, u, v) = stuv::xyz_to_face_uv(&Vector { x: 0.0, y: 0.0, z: 0.0 });
-    assert!(face == 0 && u.is_nan() && v.is_nan());
+fn d19_a_cut_value_by_overflow() {
+    let [mut a] = asked("D19", [34]);
+    assert_eq!(cut(&mut a), Some([0.0, 0.0, 1.0, 0.0]));
 }
 
 #[test]
-fn d14_a_number_that_is_no_face_stops_the_program() {
-    let panics = |ask: fn() -> u8| std::panic::catch_unwind(ask).is_err();
-    assert!(panics(|| stuv::face_uv_to_xyz(6, 0.0, 0.0).x as u8));
-    assert!(panics(|| stuv::uvw_face(6, 0, 0)));
-    assert!(panics(|| stuv::uvw_face(0, 3, 0)));
-    assert!(panics(|| stuv::uvw_face(0, 0, 2)));
+fn d22_an_end_that_is_not_moved() {
+    let [mut below, mut nan] = asked("D22", [31, 31]);
+    for a in [&mut below, &mut nan] {
+        let (interval, moved) = private::update_endpoint(a.take(), a.take(), a.take());
+        assert!(moved && ends(interval) == [0.0, 0.0]);
+    }
 }
 
 #[test]
-fn d15_the_exact_tests_with_an_infinity() {
-    let infinite = Vector { x: f64::INFINITY, y: 1.0, z: f64::INFINITY };
-    assert!(!private::intersects_face(infinite));
-    assert!(!private::sum_equal(f64::INFINITY, 1.0, f64::INFINITY));
+fn d23_intervals_beyond_the_window() {
+    let [mut beyond, mut empty] = asked("D23", [32, 32]);
+    let (first, other, kept) = clip_bound_axis(&mut beyond);
+    assert!(kept && ends(first) == [0.0, 0.0] && ends(other) == [1.0, 1.0]);
+    let (first, _, kept) = clip_bound_axis(&mut empty);
+    assert!(kept && first.is_empty());
 }
 
 #[test]
-fn d16_a_sign_bit_that_shows_only_off_the_face() {
-    let along = |x: f64| private::exit_axis(Vector { x, y: 1.0, z: 2.0 });
-    assert!(matches!(along(-0.0), Axis::U) && matches!(along(0.0), Axis::V));
+fn d24_vertices_that_go_clockwise() {
+    let [mut a] = asked("D24", [21]);
+    let vertices = a.take::<Rect>().vertices();
+    assert_eq!(vertices.map(|vertex| [vertex.x, vertex.y]), [[1.0, 0.0], [0.0, 0.0], [0.0, 1.0], [1.0, 1.0]]);
+    let [first, second, third, _] = vertices;
+    assert!((second - first).cross(&(third - second)) < 0.0, "a turn to the right");
 }
 
 #[test]
-fn d17_the_exit_of_a_line_that_misses_the_face() {
-    let normal = Vector { x: 1.0, y: 0.0, z: 0.0 };
-    let in_face = Vector { x: normal.y, y: normal.z, z: normal.x };
-    assert!(!private::intersects_face(in_face));
-    let exit = private::exit_point(in_face, private::exit_axis(in_face));
-    assert_eq!([exit.x, exit.y], [f64::NEG_INFINITY, -1.0]);
+fn d25_a_box_that_does_not_hold_its_points() {
+    let [mut second, mut first, mut interval] = asked("D25", [20, 20, 10]);
+    let (zero, dead) = (second.take(), second.take());
+    assert_eq!(sides(Rect::from_points(&[zero, dead])), [0.0; 4]);
+    let (dead, zero) = (first.take(), first.take());
+    let nowhere = Rect::from_points(&[dead, zero]);
+    assert!(nowhere.x.lo.is_nan() && nowhere.x.hi.is_nan() && !nowhere.contains_point(&zero));
+    let nans: Interval = interval.take();
+    assert!(!nans.is_empty() && !nans.contains(0.0));
+}
+
+#[test]
+fn d30_windows_that_are_empty_or_open() {
+    let [mut empty, mut open] = asked("D30", [34, 34]);
+    assert_eq!(cut(&mut empty), None);
+    assert_eq!(cut(&mut open), Some([1.0, 0.5, 4.0, 2.0]));
 }

@@ -74,7 +74,7 @@ fn near_power(random: &mut Random, low: i64, high: i64) -> f64 {
 }
 
 /// 2^exponent, from -1074 on.
-pub fn power(exponent: i64) -> f64 {
+pub const fn power(exponent: i64) -> f64 {
     if exponent < -1022 {
         f64::from_bits(1 << (exponent + 1074))
     } else {

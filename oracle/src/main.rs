@@ -13,10 +13,13 @@ mod floats;
 mod grid;
 #[cfg(test)]
 mod instances;
+mod kept;
 mod likeness;
 mod line;
 mod number;
 mod operations;
+#[cfg(test)]
+mod page;
 mod plane;
 mod promises;
 mod random;
@@ -47,6 +50,7 @@ oracle answers < REQUESTS       a line for each 192-byte request, as the answeri
 oracle list < REQUESTS          the same, but where the crate leaves a zero's sign open it is as our definitions have it
 oracle requests N SEED          N seeded requests, every operation among them
 oracle grid                     every request over short lists of words
+oracle kept                     the requests that keep docs/DIFFERENCES.md
 oracle same PROGRAM INPUT A B   compares two files of PROGRAM's lines to INPUT; 1 when they differ; cut or answers";
 
 fn main() -> ExitCode {
@@ -71,6 +75,7 @@ fn run(arguments: &[&str]) -> io::Result<bool> {
         ["list"] => answers::run(Zeros::Ours)?,
         ["requests", count, seed] => requests::run(whole(count)?, whole(seed)?)?,
         ["grid"] => grid::run()?,
+        ["kept"] => kept::run()?,
         ["records", kind, count, seed] => records::run(kind, whole(count)?, whole(seed)?)?,
         ["same", program, input, one, other] => return same::run(program, input, one, other),
         _ => return Err(io::Error::other(format!("usage:\n{USAGE}"))),

@@ -12,6 +12,11 @@ use crate::r1::interval::Interval;
 use crate::r2::{self, rect::Rect};
 use crate::r3::vector::Vector;
 
+#[cfg(test)]
+pub const EDGE_CLIP_ERROR_UV_COORD: f64 = super::EDGE_CLIP_ERROR_UV_COORD;
+#[cfg(test)]
+pub const INTERSECT_RECT_ERROR_UV_DIST: f64 = super::INTERSECT_RECT_ERROR_UV_DIST;
+
 pub fn interpolate(x: f64, a: f64, b: f64, a1: f64, b1: f64) -> f64 {
     super::interpolate(x, a, b, a1, b1)
 }
@@ -76,15 +81,36 @@ fn private_axis(axis: Axis) -> super::Axis {
     }
 }
 
-/// The crate's walk over at most `limit` faces, from point `a` on the first face to point `b` on the target. Document
-/// 01's face test and limit come before each turn; the turn itself is the body of the crate's loop, cut out of its text.
+/// The crate's walk over at most `limit` faces, with document 01's face test and limit before each turn.
 pub fn walk(
-    mut face: u8,
+    face: u8,
     a: r2::point::Point,
     target: u8,
     b: r2::point::Point,
     normal: Vector,
     limit: usize,
+) -> Answer<Vec<FaceSegment>> {
+    follow(face, a, target, b, normal, |face, closed| {
+        if !super::stuv::face_xyz_to_uvw(face, &Point(normal)).intersects_face() {
+            Err(FACE_MISSED)
+        } else if closed + 1 == limit {
+            Err(TARGET_NOT_REACHED)
+        } else {
+            Ok(())
+        }
+    })
+}
+
+/// The crate's loop, from point `a` on the first face to point `b` on the target: a turn is the body of its own loop,
+/// cut out of its text. The loop may never end, so `before` is asked ahead of each turn, with the face and the count of
+/// segments that are closed, and its number ends the walk.
+pub fn follow(
+    mut face: u8,
+    a: r2::point::Point,
+    target: u8,
+    b: r2::point::Point,
+    normal: Vector,
+    mut before: impl FnMut(u8, usize) -> Answer<()>,
 ) -> Answer<Vec<FaceSegment>> {
     // The names that the body uses.
     use super::{next_face, stuv, PointUVW};
@@ -92,12 +118,7 @@ pub fn walk(
     let mut segment = FaceSegment { face, a, b };
     let mut segments = Vec::new();
     while face != b_face {
-        if !stuv::face_xyz_to_uvw(face, &ab).intersects_face() {
-            return Err(FACE_MISSED);
-        }
-        if segments.len() + 1 == limit {
-            return Err(TARGET_NOT_REACHED);
-        }
+        before(face, segments.len())?;
         include!(concat!(env!("OUT_DIR"), "/walk_body.rs"))
     }
     segment.b = b;
