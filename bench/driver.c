@@ -1,0 +1,201 @@
+/* driver.c: calls the contestants. Each is the same three functions of include/umblacet.h under its own name, and every
+ * call goes through the same loop.
+ *
+ *     driver count CONTESTANT INPUT COUNT ROUNDS    makes COUNT inputs, calls the contestant on each ROUNDS times, and
+ *                                                   prints what it answered: how many were done, and a sum of all bits
+ *     driver time INPUT COUNT ROUNDS                the same for every contestant that is linked in, in turn, and prints
+ *                                                   each one's nanoseconds a call in its best round
+ *
+ * Status 3 where the contestant is not linked in or has no such function. */
+#include "inputs.h"
+
+/* The kit's clang comes without the C library's headers: what is used of it is declared here, for x86-64 Linux. */
+int printf(const char *format, ...);
+int strcmp(const char *one, const char *other);
+long atol(const char *text);
+void *calloc(size_t count, size_t size);
+struct timespec {
+    long seconds, nanoseconds;
+};
+int clock_gettime(int clock, struct timespec *now);
+enum { CLOCK_MONOTONIC = 1 };
+
+typedef umb_cut cut_function(umb_point a, umb_point b, umb_rect window);
+typedef umb_yes_no meets_function(umb_vector n);
+typedef umb_walk_answer walk_function(uint8_t face, umb_uv a, uint8_t target, umb_uv b, umb_vector normal, uint8_t *out,
+                                      size_t out_length);
+
+/* Weak, so that what cannot be built may be left out. */
+#define OPTIONAL __attribute__((weak))
+extern cut_function nothing_clip_edge, crate_clip_edge OPTIONAL, s2_clip_edge OPTIONAL;
+extern meets_function nothing_intersects_face, crate_intersects_face OPTIONAL;
+extern walk_function nothing_walk, crate_walk OPTIONAL;
+
+static const struct contestant {
+    const char *name;
+    cut_function *cut;
+    meets_function *meets;
+    walk_function *walk;
+} contestants[] = {
+    {"ours", umb_clip_edge, umb_intersects_face, umb_walk},
+    {"crate", crate_clip_edge, crate_intersects_face, crate_walk},
+    {"s2", s2_clip_edge, 0, 0},
+    {"nothing", nothing_clip_edge, nothing_intersects_face, nothing_walk},
+};
+enum { CONTESTANTS = sizeof contestants / sizeof contestants[0] };
+
+static const struct input {
+    const char *name;
+    void (*make)(edge *edges, size_t count); /* none for lines */
+} inputs[] = {
+    {"random", random_edges}, {"trace", trace_edges}, {"outside", outside_edges},
+    {"inside", inside_edges}, {"line", 0},            {"walk", 0},
+};
+enum { INPUTS = sizeof inputs / sizeof inputs[0], LINE = 4, WALK = 5 };
+
+static size_t input, count;
+static edge *edges;
+static umb_cut *cuts;
+static umb_vector *lines;
+static umb_yes_no *answers;
+static walk_input *walked;
+static umb_walk_answer *ends;
+static uint8_t *records;
+
+static void make_inputs(void) {
+    edges = calloc(count, sizeof *edges);
+    cuts = calloc(count, sizeof *cuts);
+    lines = calloc(count, sizeof *lines);
+    answers = calloc(count, sizeof *answers);
+    walked = calloc(count, sizeof *walked);
+    ends = calloc(count, sizeof *ends);
+    records = calloc(count, WALK_BYTES);
+    if (input == LINE) normals(lines, count);
+    else if (input == WALK) walks(walked, count);
+    else inputs[input].make(edges, count);
+}
+
+/* ---- the loops */
+
+static void cut_all(cut_function *cut) {
+    for (size_t i = 0; i < count; i++) cuts[i] = cut(edges[i].a, edges[i].b, WINDOW);
+}
+
+static void test_all(meets_function *meets) {
+    for (size_t i = 0; i < count; i++) answers[i] = meets(lines[i]);
+}
+
+static void walk_all(walk_function *walk) {
+    for (size_t i = 0; i < count; i++) {
+        const walk_input *w = &walked[i];
+        ends[i] = walk(w->face, w->a, w->target, w->b, w->normal, records + i * WALK_BYTES, WALK_BYTES);
+    }
+}
+
+static bool has(const struct contestant *c) {
+    return input == LINE ? c->meets != 0 : input == WALK ? c->walk != 0 : c->cut != 0;
+}
+
+static void call_all(const struct contestant *c) {
+    if (input == LINE) test_all(c->meets);
+    else if (input == WALK) walk_all(c->walk);
+    else cut_all(c->cut);
+}
+
+/* ---- what was answered */
+
+static uint64_t sum;
+
+static void add(uint64_t word) {
+    sum = (sum ^ word) * 0x100000001b3u;
+}
+
+static void add_float(double x) {
+    union {
+        double x;
+        uint64_t bits;
+    } word = {x};
+    add(word.bits);
+}
+
+/* Adds answer i to the sum, padding left out, and says whether something was done: kept, met or walked. */
+static bool add_answer(size_t i) {
+    if (input == LINE) {
+        add(answers[i].number);
+        add(answers[i].yes);
+        return answers[i].yes;
+    }
+    if (input == WALK) {
+        add(ends[i].number);
+        add(ends[i].count);
+        for (size_t byte = 0; byte < WALK_BYTES; byte++) add(records[i * WALK_BYTES + byte]);
+        return ends[i].number == UMB_DONE;
+    }
+    add(cuts[i].number);
+    add_float(cuts[i].a.x);
+    add_float(cuts[i].a.y);
+    add_float(cuts[i].b.x);
+    add_float(cuts[i].b.y);
+    return cuts[i].number == UMB_DONE;
+}
+
+static void print_answers(void) {
+    size_t done = 0;
+    for (size_t i = 0; i < count; i++) done += add_answer(i);
+    printf("%lu of %lu, sum %016lx\n", (unsigned long)done, (unsigned long)count, (unsigned long)sum);
+}
+
+/* ---- the two commands */
+
+static int count_calls(const char *name, size_t rounds) {
+    for (size_t c = 0; c < CONTESTANTS; c++) {
+        if (strcmp(contestants[c].name, name) != 0 || !has(&contestants[c])) continue;
+        for (size_t round = 0; round < rounds; round++) call_all(&contestants[c]);
+        print_answers();
+        return 0;
+    }
+    return 3;
+}
+
+static double now(void) {
+    struct timespec t;
+    clock_gettime(CLOCK_MONOTONIC, &t);
+    return (double)t.seconds * 1e9 + (double)t.nanoseconds;
+}
+
+static int time_calls(size_t rounds) {
+    double best[CONTESTANTS];
+    for (size_t round = 0; round < rounds; round++) {
+        for (size_t c = 0; c < CONTESTANTS; c++) {
+            if (!has(&contestants[c])) continue;
+            double start = now();
+            call_all(&contestants[c]);
+            double taken = now() - start;
+            if (round == 0 || taken < best[c]) best[c] = taken;
+        }
+    }
+    for (size_t c = 0; c < CONTESTANTS; c++) {
+        if (has(&contestants[c])) printf("%s %.2f\n", contestants[c].name, best[c] / (double)count);
+    }
+    return 0;
+}
+
+static bool find_input(const char *name) {
+    for (input = 0; input < INPUTS; input++) {
+        if (strcmp(inputs[input].name, name) == 0) return true;
+    }
+    return false;
+}
+
+int main(int argc, char **argv) {
+    bool counting = argc == 6 && strcmp(argv[1], "count") == 0;
+    bool timing = argc == 5 && strcmp(argv[1], "time") == 0;
+    if (!(counting || timing) || !find_input(argv[argc - 3])) {
+        printf("usage: driver count CONTESTANT INPUT COUNT ROUNDS, or driver time INPUT COUNT ROUNDS\n");
+        return 2;
+    }
+    count = (size_t)atol(argv[argc - 2]);
+    size_t rounds = (size_t)atol(argv[argc - 1]);
+    make_inputs();
+    return counting ? count_calls(argv[2], rounds) : time_calls(rounds);
+}

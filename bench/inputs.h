@@ -1,0 +1,124 @@
+/* inputs.h: what the contestants are asked, the same on every machine: a whole-number generator and no libm. */
+#ifndef BENCH_INPUTS_H
+#define BENCH_INPUTS_H
+
+#include "umblacet.h"
+
+/* 240 bytes always hold a walk. */
+enum { WALK_BYTES = 240 };
+
+typedef struct edge {
+    umb_point a, b;
+} edge;
+
+typedef struct walk_input {
+    uint8_t face, target;
+    umb_uv a, b;
+    umb_vector normal;
+} walk_input;
+
+/* The window of every edge. */
+static const umb_rect WINDOW = {{0.0, 1.0}, {0.0, 1.0}};
+
+static uint64_t state;
+
+/* The next of 2^64 numbers in no order (Steele, Lea and Flood's SplitMix64). */
+static uint64_t next_number(void) {
+    uint64_t z = state += 0x9e3779b97f4a7c15u;
+    z = (z ^ z >> 30) * 0xbf58476d1ce4e5b9u;
+    z = (z ^ z >> 27) * 0x94d049bb133111ebu;
+    return z ^ z >> 31;
+}
+
+/* From lo up to hi, any of 2^53 places. */
+static double between(double lo, double hi) {
+    return lo + (hi - lo) * ((double)(next_number() >> 11) * 0x1p-53);
+}
+
+static umb_point point_between(double lo, double hi) {
+    double x = between(lo, hi);
+    double y = between(lo, hi);
+    return (umb_point){x, y};
+}
+
+/* ---- edges */
+
+/* Both ends anywhere in a square around the window. About a quarter is kept, most of it cut. */
+static void random_edges(edge *edges, size_t count) {
+    for (size_t i = 0; i < count; i++) {
+        edges[i].a = point_between(-2.7, 3.7);
+        edges[i].b = point_between(-2.7, 3.7);
+    }
+}
+
+/* A sample: it rises and falls slowly, from below the window to above it, with a little noise. */
+static umb_point sample(size_t i, size_t count) {
+    size_t phase = i % 200;
+    double height = (double)(phase < 100 ? phase : 200 - phase) / 100.0;
+    return (umb_point){(double)i / (double)count, -0.17 + 1.34 * height + between(-0.01, 0.01)};
+}
+
+/* Each edge joins the sample before to the next. About three quarters are kept, nearly all of them whole. */
+static void trace_edges(edge *edges, size_t count) {
+    umb_point last = sample(0, count);
+    for (size_t i = 0; i < count; i++) {
+        edges[i].a = last;
+        last = sample(i + 1, count);
+        edges[i].b = last;
+    }
+}
+
+/* All beyond one side, each side as often, and anywhere along it. */
+static void outside_edges(edge *edges, size_t count) {
+    for (size_t i = 0; i < count; i++) {
+        uint64_t side = next_number() >> 62;
+        double beyond_a = between(0.01, 1.0), beyond_b = between(0.01, 1.0);
+        double along_a = between(-1.0, 2.0), along_b = between(-1.0, 2.0);
+        double across_a = side & 1 ? 1.0 + beyond_a : -beyond_a, across_b = side & 1 ? 1.0 + beyond_b : -beyond_b;
+        edges[i].a = side & 2 ? (umb_point){along_a, across_a} : (umb_point){across_a, along_a};
+        edges[i].b = side & 2 ? (umb_point){along_b, across_b} : (umb_point){across_b, along_b};
+    }
+}
+
+static void inside_edges(edge *edges, size_t count) {
+    for (size_t i = 0; i < count; i++) {
+        edges[i].a = point_between(0.0, 1.0);
+        edges[i].b = point_between(0.0, 1.0);
+    }
+}
+
+/* ---- lines */
+
+/* Normals in a face's u, v, w; with w up to twice the others, half of the lines meet the face. */
+static void normals(umb_vector *lines, size_t count) {
+    for (size_t i = 0; i < count; i++) {
+        lines[i].x = between(-1.0, 1.0);
+        lines[i].y = between(-1.0, 1.0);
+        lines[i].z = between(-2.0, 2.0);
+    }
+}
+
+static double magnitude(double x) {
+    return x < 0.0 ? -x : x;
+}
+
+/* Any face that the line meets. */
+static uint8_t face_met(umb_vector n) {
+    double along[3] = {magnitude(n.x), magnitude(n.y), magnitude(n.z)};
+    for (;;) {
+        uint8_t face = next_number() % 6;
+        if (along[(face + 1) % 3] + along[(face + 2) % 3] >= along[face % 3]) return face;
+    }
+}
+
+/* From a face that the line meets to another, or the same. The ends may stand anywhere on theirs. */
+static void walks(walk_input *inputs, size_t count) {
+    for (size_t i = 0; i < count; i++) {
+        umb_point xy = point_between(-1.0, 1.0), a = point_between(-1.0, 1.0), b = point_between(-1.0, 1.0);
+        umb_vector n = {xy.x, xy.y, between(-1.0, 1.0)};
+        uint8_t face = face_met(n), target = face_met(n);
+        inputs[i] = (walk_input){face, target, {a.x, a.y}, {b.x, b.y}, n};
+    }
+}
+
+#endif

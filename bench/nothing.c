@@ -1,0 +1,18 @@
+/* nothing.c: the contestant that does nothing, to measure the loop, the call and the answer's own bytes. */
+#include "umblacet.h"
+
+umb_cut nothing_clip_edge(umb_point a, umb_point b, umb_rect window) {
+    (void)a, (void)b, (void)window;
+    return (umb_cut){UMB_DONE, {0.0, 0.0}, {0.0, 0.0}};
+}
+
+umb_yes_no nothing_intersects_face(umb_vector n) {
+    (void)n;
+    return (umb_yes_no){UMB_DONE, false};
+}
+
+umb_walk_answer nothing_walk(uint8_t face, umb_uv a, uint8_t target, umb_uv b, umb_vector normal, uint8_t *out,
+                             size_t out_length) {
+    (void)face, (void)a, (void)target, (void)b, (void)normal, (void)out, (void)out_length;
+    return (umb_walk_answer){UMB_DONE, 0};
+}
