@@ -1,10 +1,12 @@
 /* driver.c: calls the contestants. Each is the same three functions of include/umblacet.h under its own name, and every
  * call goes through the same loop.
  *
- *     driver count CONTESTANT INPUT COUNT ROUNDS    makes COUNT inputs, calls the contestant on each ROUNDS times, and
- *                                                   prints what it answered: how many were done, and a sum of all bits
- *     driver time INPUT COUNT ROUNDS                the same for every contestant that is linked in, in turn, and prints
- *                                                   each one's nanoseconds a call in its best round
+ *     driver count CONTESTANT INPUT COUNT ROUNDS
+ *         makes COUNT inputs, calls the contestant on each ROUNDS times, and prints what it answered: how many were
+ *         done, and a sum of all bits
+ *     driver time INPUT COUNT ROUNDS
+ *         the same for every contestant that is linked in, in turn, and prints each one's nanoseconds a call in its
+ *         best round
  *
  * Status 3 where the contestant is not linked in or has no such function. */
 #include "inputs.h"
@@ -14,6 +16,8 @@ int printf(const char *format, ...);
 int strcmp(const char *one, const char *other);
 long atol(const char *text);
 void *calloc(size_t count, size_t size);
+void *memcpy(void *to, const void *from, size_t size);
+int sched_yield(void);
 struct timespec {
     long seconds, nanoseconds;
 };
@@ -110,12 +114,12 @@ static void add(uint64_t word) {
     sum = (sum ^ word) * 0x100000001b3u;
 }
 
-static void add_float(double x) {
-    union {
-        double x;
-        uint64_t bits;
-    } word = {x};
-    add(word.bits);
+static void add_words(const void *from, size_t words) {
+    for (size_t i = 0; i < words; i++) {
+        uint64_t word;
+        memcpy(&word, (const uint8_t *)from + 8 * i, 8);
+        add(word);
+    }
 }
 
 /* Adds answer i to the sum, padding left out, and says whether something was done: kept, met or walked. */
@@ -128,14 +132,12 @@ static bool add_answer(size_t i) {
     if (input == WALK) {
         add(ends[i].number);
         add(ends[i].count);
-        for (size_t byte = 0; byte < WALK_BYTES; byte++) add(records[i * WALK_BYTES + byte]);
+        add_words(records + i * WALK_BYTES, WALK_BYTES / 8);
         return ends[i].number == UMB_DONE;
     }
     add(cuts[i].number);
-    add_float(cuts[i].a.x);
-    add_float(cuts[i].a.y);
-    add_float(cuts[i].b.x);
-    add_float(cuts[i].b.y);
+    add_words(&cuts[i].a, 2);
+    add_words(&cuts[i].b, 2);
     return cuts[i].number == UMB_DONE;
 }
 
@@ -150,6 +152,7 @@ static void print_answers(void) {
 static int count_calls(const char *name, size_t rounds) {
     for (size_t c = 0; c < CONTESTANTS; c++) {
         if (strcmp(contestants[c].name, name) != 0 || !has(&contestants[c])) continue;
+        sched_yield(); /* tells step.c that what is to be counted begins */
         for (size_t round = 0; round < rounds; round++) call_all(&contestants[c]);
         print_answers();
         return 0;

@@ -1,5 +1,5 @@
-// s2.cc: C++ s2geometry's ClipEdge behind the same C signature. It refuses nothing. Its line test and its walk cannot be
-// called from outside.
+// s2.cc: C++ s2geometry's ClipEdge behind the same C signature. It refuses nothing. Its line test and its walk cannot
+// be called from outside.
 #include "umblacet.h"
 #include <s2/r2.h>
 #include <s2/r2rect.h>

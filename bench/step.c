@@ -1,20 +1,36 @@
-/* step.c: `step FILE PROGRAM WORDS...` runs the program one instruction at a time, on x86-64 Linux and with nothing
- * installed, and writes how many it executed to FILE. Ends with the program's status. */
+/* step.c: `step FILE PROGRAM WORDS...` runs the program on the processor itself, x86-64 Linux, from its first call of
+ * sched_yield on one instruction at a time, and writes to FILE how many those were. Ends with the program's status. */
+#include <stddef.h>
 #include <stdio.h>
 #include <stdlib.h>
 #include <sys/personality.h>
 #include <sys/ptrace.h>
+#include <sys/syscall.h>
+#include <sys/user.h>
 #include <sys/wait.h>
 #include <unistd.h>
+
+static pid_t program;
+static int status;
 
 static void fail(const char *what) {
     perror(what);
     exit(125);
 }
 
+static void go_on(enum __ptrace_request how) {
+    if (ptrace(how, program, NULL, NULL) < 0) fail("ptrace");
+    if (waitpid(program, &status, 0) < 0) fail("waitpid");
+}
+
+/* Stopped at the start or the end of that system call. */
+static int in_yield(void) {
+    return ptrace(PTRACE_PEEKUSER, program, offsetof(struct user, regs.orig_rax), NULL) == SYS_sched_yield;
+}
+
 int main(int argc, char **argv) {
     if (argc < 3) return 125;
-    pid_t program = fork();
+    program = fork();
     if (program < 0) fail("fork");
     if (program == 0) {
         /* The same addresses in every run. */
@@ -23,14 +39,13 @@ int main(int argc, char **argv) {
         execv(argv[2], argv + 2);
         fail(argv[2]);
     }
-    int status;
-    long executed = 0;
     if (waitpid(program, &status, 0) < 0) fail("waitpid");
-    while (WIFSTOPPED(status)) {
-        if (ptrace(PTRACE_SINGLESTEP, program, NULL, NULL) < 0) fail("ptrace");
-        if (waitpid(program, &status, 0) < 0) fail("waitpid");
-        executed++;
-    }
+    do go_on(PTRACE_SYSCALL);
+    while (WIFSTOPPED(status) && !in_yield());
+
+    long executed = 0;
+    for (; WIFSTOPPED(status); executed++) go_on(PTRACE_SINGLESTEP);
+
     FILE *file = fopen(argv[1], "w");
     if (file == NULL) fail(argv[1]);
     fprintf(file, "%ld\n", executed);
