@@ -22,11 +22,11 @@ pub mod line {
     }
 }
 
-use number::{Number, BAD_WINDOW, BUFFER_TOO_SHORT, DONE, MISSED, NOT_FINITE, NO_SUCH_FACE, ZERO};
+use number::{Number, BUFFER_TOO_SHORT, DONE, NOT_FINITE, NO_SUCH_FACE, ZERO};
 use r1::interval::Interval;
 use r2::{point::Point, rect::Rect};
 use r3::vector::Vector;
-use s2::edge_clipping::{self, private, FaceSegment};
+use s2::edge_clipping::private;
 
 // ---- C's structs
 
@@ -60,13 +60,6 @@ pub struct CVector {
 }
 
 #[repr(C)]
-pub struct CCut {
-    number: Number,
-    a: CPoint,
-    b: CPoint,
-}
-
-#[repr(C)]
 pub struct CYesNo {
     number: Number,
     yes: bool,
@@ -96,6 +89,12 @@ impl From<CInterval> for Interval {
     }
 }
 
+impl From<CRect> for Rect {
+    fn from(r: CRect) -> Rect {
+        Rect { x: r.x.into(), y: r.y.into() }
+    }
+}
+
 impl From<CVector> for Vector {
     fn from(v: CVector) -> Vector {
         Vector { x: v.x, y: v.y, z: v.z }
@@ -122,6 +121,12 @@ impl CInterval {
     }
 }
 
+impl CRect {
+    fn fine(self) -> bool {
+        self.x.fine() & self.y.fine()
+    }
+}
+
 impl CVector {
     fn finite(self) -> bool {
         finite(self.x) & finite(self.y) & finite(self.z)
@@ -132,29 +137,12 @@ impl CVector {
     }
 }
 
-// ---- cutting an edge
+// ---- cutting an edge or a whole trace: never both, since the compiler takes `clip_edge` only into a single caller
 
-fn no_cut(number: Number) -> CCut {
-    let zero = CPoint { x: 0.0, y: 0.0 };
-    CCut { number, a: zero, b: zero }
-}
-
-#[no_mangle]
-pub extern "C" fn crate_clip_edge(a: CPoint, b: CPoint, window: CRect) -> CCut {
-    if REFUSING {
-        if !(a.finite() & b.finite()) {
-            return no_cut(NOT_FINITE);
-        }
-        if !(window.x.fine() & window.y.fine()) {
-            return no_cut(BAD_WINDOW);
-        }
-    }
-    let window = Rect { x: window.x.into(), y: window.y.into() };
-    match edge_clipping::clip_edge(a.into(), b.into(), window) {
-        (a, b, true) => CCut { number: DONE, a: a.into(), b: b.into() },
-        (_, _, false) => no_cut(MISSED),
-    }
-}
+#[cfg(not(feature = "trace"))]
+mod edge;
+#[cfg(feature = "trace")]
+mod trace;
 
 // ---- the line test
 
@@ -209,17 +197,16 @@ pub unsafe extern "C" fn crate_walk(
     }
     let out = std::slice::from_raw_parts_mut(out, out_length);
     for (segment, place) in segments.iter().zip(out.as_chunks_mut().0) {
-        *place = record(segment);
+        *place = record(segment.face, segment.a, segment.b);
     }
     CWalkAnswer { number: DONE, count: segments.len() }
 }
 
-/// Face, seven zero bytes, then a.u, a.v, b.u, b.v.
-fn record(segment: &FaceSegment) -> [u8; RECORD] {
-    let floats = [segment.a.x, segment.a.y, segment.b.x, segment.b.y];
+/// A face or a number, seven zero bytes, then a's two floats and b's.
+fn record(first: u8, a: Point, b: Point) -> [u8; RECORD] {
     let mut bytes = [0; RECORD];
-    bytes[0] = segment.face;
-    for (place, float) in bytes[8..].as_chunks_mut().0.iter_mut().zip(floats) {
+    bytes[0] = first;
+    for (place, float) in bytes[8..].as_chunks_mut().0.iter_mut().zip([a.x, a.y, b.x, b.y]) {
         *place = float.to_bits().to_le_bytes();
     }
     bytes

@@ -1,12 +1,11 @@
-/* driver.c: calls the contestants. Each is the same three functions of include/umblacet.h under its own name, and every
+/* driver.c: calls the contestants. Each is the same four functions of include/umblacet.h under its own name, and every
  * call goes through the same loop.
  *
- *     driver count CONTESTANT INPUT COUNT ROUNDS
- *         makes COUNT inputs, calls the contestant on each ROUNDS times, and prints what it answered: how many were
- *         done, and a sum of all bits
- *     driver time INPUT COUNT ROUNDS
- *         the same for every contestant that is linked in, in turn, and prints each one's nanoseconds a call in its
- *         best round
+ *     driver count CONTESTANT INPUT COUNT ROUNDS    makes COUNT inputs, calls the contestant on each ROUNDS times, and
+ *                                                   prints what it answered: how many were done, and a sum of all bits;
+ *                                                   a trace is one input of COUNT edges
+ *     driver time INPUT COUNT ROUNDS                the same for every contestant that is linked in, in turn, and prints
+ *                                                   each one's nanoseconds a call in its best round
  *
  * Status 3 where the contestant is not linked in or has no such function. */
 #include "inputs.h"
@@ -28,32 +27,78 @@ typedef umb_cut cut_function(umb_point a, umb_point b, umb_rect window);
 typedef umb_yes_no meets_function(umb_vector n);
 typedef umb_walk_answer walk_function(uint8_t face, umb_uv a, uint8_t target, umb_uv b, umb_vector normal, uint8_t *out,
                                       size_t out_length);
+typedef umb_trace_answer trace_function(const double *samples, size_t samples_length, umb_rect window, uint8_t *out,
+                                        size_t out_length);
 
 /* Weak, so that what cannot be built may be left out. */
 #define OPTIONAL __attribute__((weak))
 extern cut_function nothing_clip_edge, crate_clip_edge OPTIONAL, s2_clip_edge OPTIONAL;
 extern meets_function nothing_intersects_face, crate_intersects_face OPTIONAL;
 extern walk_function nothing_walk, crate_walk OPTIONAL;
+extern trace_function crate_cut_trace OPTIONAL;
+
+/* The record of an edge: its number, seven zero bytes, then the floats of its answer. */
+static void put_record(uint8_t *record, umb_cut cut) {
+    uint64_t head = cut.number;
+    __builtin_memcpy(record, &head, 8);
+    __builtin_memcpy(record + 8, &cut.a, 16);
+    __builtin_memcpy(record + 24, &cut.b, 16);
+}
+
+/* A whole trace with a call for each edge, as it is done where there is no function for it. It refuses no trace: the
+ * crate's function refuses each edge by itself, the window with it. */
+static umb_trace_answer crate_edge_by_edge(const double *samples, size_t samples_length, umb_rect window, uint8_t *out,
+                                           size_t out_length) {
+    umb_trace_answer counted = {0};
+    for (size_t i = 0; i + 3 < samples_length && out_length >= RECORD_BYTES; i += 2) {
+        const double *ends = samples + i;
+        umb_cut cut = crate_clip_edge((umb_point){ends[0], ends[1]}, (umb_point){ends[2], ends[3]}, window);
+        put_record(out, cut);
+        counted.kept += cut.number == UMB_DONE;
+        counted.missed += cut.number == UMB_MISSED;
+        counted.edges++;
+        out += RECORD_BYTES;
+        out_length -= RECORD_BYTES;
+    }
+    counted.refused = counted.edges - counted.kept - counted.missed;
+    return counted;
+}
 
 static const struct contestant {
     const char *name;
     cut_function *cut;
     meets_function *meets;
     walk_function *walk;
+    trace_function *trace;
 } contestants[] = {
-    {"ours", umb_clip_edge, umb_intersects_face, umb_walk},
-    {"crate", crate_clip_edge, crate_intersects_face, crate_walk},
-    {"s2", s2_clip_edge, 0, 0},
-    {"nothing", nothing_clip_edge, nothing_intersects_face, nothing_walk},
+    {"ours", umb_clip_edge, umb_intersects_face, umb_walk, umb_cut_trace},
+    {"crate", crate_clip_edge, crate_intersects_face, crate_walk, crate_edge_by_edge},
+    {"loop", 0, 0, 0, crate_cut_trace},
+    {"s2", s2_clip_edge, 0, 0, 0},
+    {"nothing", nothing_clip_edge, nothing_intersects_face, nothing_walk, 0},
 };
 enum { CONTESTANTS = sizeof contestants / sizeof contestants[0] };
 
 static const struct input {
     const char *name;
-    void (*make)(edge *edges, size_t count); /* none for lines */
+    void (*make)(edge *edges, size_t count);     /* edges */
+    umb_point (*sample)(size_t i, size_t count); /* a whole trace */
 } inputs[] = {
-    {"random", random_edges}, {"trace", trace_edges}, {"outside", outside_edges},
-    {"inside", inside_edges}, {"line", 0},            {"walk", 0},
+    {"random", random_edges, 0},
+    {"trace", trace_edges, 0},
+    {"outside", outside_edges, 0},
+    {"inside", inside_edges, 0},
+    {"line", 0, 0},
+    {"walk", 0, 0},
+    {"whole-trace", 0, sample},
+    {"whole-random", 0, anywhere},
+    {"whole-outside", 0, along_sides},
+    {"whole-inside", 0, inside},
+    {"whole-seldom-dead", 0, seldom_dead},
+    {"whole-in-and-out", 0, in_and_out},
+    {"whole-across", 0, across},
+    {"whole-corners", 0, round_corners},
+    {"whole-dead", 0, dead},
 };
 enum { INPUTS = sizeof inputs / sizeof inputs[0], LINE = 4, WALK = 5 };
 
@@ -64,7 +109,23 @@ static umb_vector *lines;
 static umb_yes_no *answers;
 static walk_input *walked;
 static umb_walk_answer *ends;
+static double *samples;
+static umb_trace_answer counts;
 static uint8_t *records;
+
+static bool is_trace(void) {
+    return inputs[input].sample != 0;
+}
+
+/* One sample more than edges; and no byte of the records is right before it is written. */
+static void make_trace(void) {
+    for (size_t i = 0; i <= count; i++) {
+        umb_point p = inputs[input].sample(i, count);
+        samples[2 * i] = p.x;
+        samples[2 * i + 1] = p.y;
+    }
+    for (size_t byte = 0; byte < count * RECORD_BYTES; byte++) records[byte] = 0xee;
+}
 
 static void make_inputs(void) {
     edges = calloc(count, sizeof *edges);
@@ -73,8 +134,10 @@ static void make_inputs(void) {
     answers = calloc(count, sizeof *answers);
     walked = calloc(count, sizeof *walked);
     ends = calloc(count, sizeof *ends);
+    samples = calloc(count + 1, 2 * sizeof *samples);
     records = calloc(count, WALK_BYTES);
-    if (input == LINE) normals(lines, count);
+    if (is_trace()) make_trace();
+    else if (input == LINE) normals(lines, count);
     else if (input == WALK) walks(walked, count);
     else inputs[input].make(edges, count);
 }
@@ -96,12 +159,18 @@ static void walk_all(walk_function *walk) {
     }
 }
 
+static void cut_trace(trace_function *trace) {
+    counts = trace(samples, 2 * (count + 1), WINDOW, records, count * RECORD_BYTES);
+}
+
 static bool has(const struct contestant *c) {
+    if (is_trace()) return c->trace == crate_edge_by_edge ? c->cut != 0 : c->trace != 0;
     return input == LINE ? c->meets != 0 : input == WALK ? c->walk != 0 : c->cut != 0;
 }
 
 static void call_all(const struct contestant *c) {
-    if (input == LINE) test_all(c->meets);
+    if (is_trace()) cut_trace(c->trace);
+    else if (input == LINE) test_all(c->meets);
     else if (input == WALK) walk_all(c->walk);
     else cut_all(c->cut);
 }
@@ -122,8 +191,24 @@ static void add_words(const void *from, size_t words) {
     }
 }
 
+static void add_bytes(const uint8_t *bytes, size_t length) {
+    for (size_t i = 0; i < length; i++) add(bytes[i]);
+}
+
+static void add_counts(void) {
+    add(counts.number);
+    add(counts.kept);
+    add(counts.missed);
+    add(counts.refused);
+    add(counts.edges);
+}
+
 /* Adds answer i to the sum, padding left out, and says whether something was done: kept, met or walked. */
 static bool add_answer(size_t i) {
+    if (is_trace()) {
+        add_bytes(records + i * RECORD_BYTES, RECORD_BYTES);
+        return records[i * RECORD_BYTES] == UMB_DONE;
+    }
     if (input == LINE) {
         add(answers[i].number);
         add(answers[i].yes);
@@ -132,7 +217,7 @@ static bool add_answer(size_t i) {
     if (input == WALK) {
         add(ends[i].number);
         add(ends[i].count);
-        add_words(records + i * WALK_BYTES, WALK_BYTES / 8);
+        add_bytes(records + i * WALK_BYTES, WALK_BYTES);
         return ends[i].number == UMB_DONE;
     }
     add(cuts[i].number);
@@ -143,6 +228,7 @@ static bool add_answer(size_t i) {
 
 static void print_answers(void) {
     size_t done = 0;
+    add_counts();
     for (size_t i = 0; i < count; i++) done += add_answer(i);
     printf("%lu of %lu, sum %016lx\n", (unsigned long)done, (unsigned long)count, (unsigned long)sum);
 }

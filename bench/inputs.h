@@ -4,8 +4,8 @@
 
 #include "umblacet.h"
 
-/* 240 bytes always hold a walk. */
-enum { WALK_BYTES = 240 };
+/* 240 bytes always hold a walk, 40 a record. */
+enum { WALK_BYTES = 240, RECORD_BYTES = 40 };
 
 typedef struct edge {
     umb_point a, b;
@@ -85,6 +85,70 @@ static void inside_edges(edge *edges, size_t count) {
         edges[i].a = point_between(0.0, 1.0);
         edges[i].b = point_between(0.0, 1.0);
     }
+}
+
+/* ---- samples of a trace: sample i, where there are so many edges. `sample` is one of them. */
+
+static umb_point anywhere(size_t i, size_t count) {
+    (void)i, (void)count;
+    return point_between(-2.7, 3.7);
+}
+
+static umb_point inside(size_t i, size_t count) {
+    (void)i, (void)count;
+    return point_between(0.0, 1.0);
+}
+
+/* So far past a side of the window: left, below, right, above. */
+static umb_point beyond(size_t side, double past, double along) {
+    double across = side >= 2 ? 1.0 + past : -past;
+    return side % 2 == 0 ? (umb_point){across, along} : (umb_point){along, across};
+}
+
+/* Along a side, at last past the next side too, and on along that: every edge is past a side. */
+static umb_point along_sides(size_t i, size_t count) {
+    (void)count;
+    size_t side = i / 8 % 4;
+    double past = between(0.01, 1.0), along = between(0.01, 1.0);
+    if (i % 8 == 7) along = side == 1 || side == 2 ? 1.0 + along : -along;
+    return beyond(side, past, along);
+}
+
+/* From each side to the next, so far out that no edge meets the window. No edge is past one side alone. */
+static umb_point round_corners(size_t i, size_t count) {
+    (void)count;
+    double past = between(2.0, 3.0);
+    return beyond(i % 4, past, between(0.0, 1.0));
+}
+
+/* Out of the window and in again: every edge is cut at one end. */
+static umb_point in_and_out(size_t i, size_t count) {
+    if (i % 2 == 0) return inside(i, count);
+    for (;;) {
+        umb_point p = anywhere(i, count);
+        if (p.x < 0.0 || p.x > 1.0 || p.y < 0.0 || p.y > 1.0) return p;
+    }
+}
+
+/* From a side to the opposite one and back, so that edges are cut at both ends. Each eighth sample is inside, and then
+ * it is the other two sides. */
+static umb_point across(size_t i, size_t count) {
+    if (i % 8 == 0) return inside(i, count);
+    double past = between(0.01, 1.0);
+    return beyond(i % 2 * 2 + i / 8 % 2, past, between(0.0, 1.0));
+}
+
+/* A coordinate is NaN or an infinity. */
+static umb_point dead(size_t i, size_t count) {
+    umb_point p = sample(i, count);
+    uint64_t kind = next_number() >> 61;
+    double x = kind & 4 ? __builtin_nan("") : kind & 2 ? __builtin_inf() : -__builtin_inf();
+    return kind & 1 ? (umb_point){x, p.y} : (umb_point){p.x, x};
+}
+
+/* One in sixteen is dead. */
+static umb_point seldom_dead(size_t i, size_t count) {
+    return next_number() >> 60 == 0 ? dead(i, count) : sample(i, count);
 }
 
 /* ---- lines */

@@ -2,9 +2,9 @@
  *
  * Every function answers every input: NaN, infinities, empty windows, faces above 5 and short buffers get a number,
  * and nothing traps. An answer is a struct whose first member is that number. Beside any number but UMB_DONE all its
- * other members are zeros (no, face 0, axis U). Arguments are taken by value and nothing is kept between calls, so
- * every function may be called from any thread. Only umb_walk is lent memory, and says what it leaves there; no other
- * function writes anywhere but its answer.
+ * other members are zeros (no, face 0, axis U). Nothing is kept between calls, so every function may be called from any
+ * thread. Only umb_walk and umb_cut_trace are lent memory, and say what they leave there; all other arguments are taken
+ * by value, and no other function writes anywhere but its answer.
  *
  * All floats are IEEE 754 binary64, round to nearest, ties to even, which is how a C program starts: a caller that has
  * set another rounding, or flushes subnormals to zero, sets that back before a call. A bool holds 0 or 1.
@@ -21,7 +21,7 @@
 extern "C" {
 #endif
 
-/* ---- the numbers */
+/* ---- the numbers; 9 is the programs' alone */
 
 enum {
     UMB_DONE = 0,         /* kept, or done */
@@ -32,7 +32,8 @@ enum {
     UMB_ZERO = 5,         /* a vector or normal all zero, or a division by zero */
     UMB_OFF_FACE = 6,     /* the line does not meet a face that is not the target */
     UMB_UNFINISHED = 7,   /* the target is not among the first 8 faces: no longer walk would reach it */
-    UMB_SHORT_BUFFER = 8  /* the buffer holds fewer whole records than there are */
+    UMB_SHORT_BUFFER = 8, /* the buffer holds fewer whole records than there are */
+    UMB_BAD_TRACE = 10    /* an odd count of floats, or more than 4,096 samples */
 };
 
 /* ---- what is handed in */
@@ -138,6 +139,12 @@ typedef struct umb_walk_answer {
     size_t count;
 } umb_walk_answer;
 
+/* The edges of a trace. */
+typedef struct umb_trace_answer {
+    uint8_t number;
+    size_t kept, missed, refused, edges;
+} umb_trace_answer;
+
 /* ---- points. 2 where a float handed in is not finite, else 0. */
 
 umb_point_answer umb_point_new(double x, double y);
@@ -203,6 +210,19 @@ umb_axes umb_clip_bound_axis(double a0, double b0, umb_interval bound0, double a
 umb_interval_answer umb_update_endpoint(umb_interval bound, bool high_endpoint, double value);
 /* The value at x on the line through (a, a1) and (b, b1). 2 or 0. */
 umb_real umb_interpolate(double x, double a, double b, double a1, double b1);
+
+/* ---- a whole trace in one call */
+
+/* Every edge of a trace, from each sample to the next, cut to the window as umb_clip_edge cuts it: a record of 40 bytes
+ * for each, from out on, and how many of them were kept, missed and refused, and how many there are. A record is the
+ * number of the edge's answer, 0, 1 or 2, seven zero bytes, and a.x, a.y, b.x, b.y of the kept points as little-endian
+ * bits, zeros unless it is kept. A dead sample is 2 in the records of the edges that touch it, and nowhere else; no
+ * sample or one has no edge. So a trace cut at a sample, which is sent in both parts, gives the same records. Of these
+ * numbers: 10, 3, 8, 0. Beside 0 the bytes after the last record stay as they were; beside any other number all of out
+ * does. samples has samples_length floats, x and y in turn, and out has out_length bytes; either length may be 0,
+ * neither pointer is null, and the two do not overlap. The samples are only read. */
+umb_trace_answer umb_cut_trace(const double *samples, size_t samples_length, umb_rect window, uint8_t *out,
+                               size_t out_length);
 
 /* ---- the six faces of the cube */
 

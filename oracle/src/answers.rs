@@ -1,20 +1,24 @@
 //! `oracle answers`: the line that the answering program has to give for each request.
 
-use crate::number::{Answer, Number, DONE, NO_SUCH_OPERATION};
+use crate::number::{Answer, DONE, NO_SUCH_OPERATION};
+use crate::r2::rect::Rect;
 use crate::stream::{answer_records, hex, words, write_line};
 use crate::words::{shown, Arguments};
 use crate::zeros::{settle, Zeros};
-use crate::{clip, cube, line, plane, walk};
+use crate::{clip, cube, line, plane, trace, walk};
 use std::io::{self, Write};
 
 /// Words of a request: the operation, then its arguments.
 pub const REQUEST: usize = 24;
 
-/// No walk is asked with a longer buffer.
-const BUFFER: usize = 400;
+/// No walk or trace is asked with a longer buffer.
+pub const BUFFER: usize = 400;
 
-/// What every byte of a buffer is before the walk.
+/// What every byte of a buffer is before the call.
 const UNTOUCHED: u8 = 0xa5;
+
+/// No trace is asked with more floats.
+pub const FLOATS: usize = 16;
 
 pub fn run(zeros: Zeros) -> io::Result<()> {
     answer_records(|record: &[u8; 8 * REQUEST], output| answer(&words(record), zeros, output))
@@ -30,8 +34,10 @@ pub fn request(operation: u64, arguments: &[u64]) -> [u64; REQUEST] {
 
 pub fn answer(request: &[u64; REQUEST], zeros: Zeros, output: &mut impl Write) -> io::Result<()> {
     let (operation, arguments) = (request[0], &request[1..]);
-    if operation == 60 {
-        return write_walk(&mut Arguments::new(arguments), output);
+    match operation {
+        60 => return write_walk(&mut Arguments::new(arguments), output),
+        61 => return write_trace(&mut Arguments::new(arguments), output),
+        _ => {}
     }
     let mut answer = results(operation, &mut Arguments::new(arguments));
     if let (Ok(results), Zeros::Ours) = (&mut answer, zeros) {
@@ -104,16 +110,32 @@ fn results(operation: u64, a: &mut Arguments) -> Answer<Vec<u64>> {
     }
 }
 
-/// A walk's line shows the whole buffer, whatever the number: what was written and what was left alone.
 fn write_walk(a: &mut Arguments, output: &mut impl Write) -> io::Result<()> {
     let (face, start, target, end, normal) = (a.take(), a.take(), a.take(), a.take(), a.take());
-    let length = a.take::<u64>().min(BUFFER as u64) as usize;
+    write_lent(output, a.take(), |buffer| Ok([walk::walk(face, start, target, end, normal, buffer)?]))
+}
+
+fn write_trace(a: &mut Arguments, output: &mut impl Write) -> io::Result<()> {
+    let (count, length, window): (u64, u64, Rect) = (a.take(), a.take(), a.take());
+    let samples: Vec<f64> = (0..count.min(FLOATS as u64)).map(|_| a.take()).collect();
+    write_lent(output, length, |buffer| trace::cut_trace(&samples, &window, buffer))
+}
+
+/// The line of a call that is lent a buffer shows its counts and the whole buffer, whatever the number: what was
+/// written and what was left alone.
+fn write_lent<const COUNTS: usize>(
+    output: &mut impl Write,
+    length: u64,
+    call: impl FnOnce(&mut [u8]) -> Answer<[usize; COUNTS]>,
+) -> io::Result<()> {
     let mut buffer = [UNTOUCHED; BUFFER];
-    let buffer = &mut buffer[..length];
-    let (number, count): (Number, usize) = match walk::walk(face, start, target, end, normal, buffer) {
-        Ok(count) => (DONE, count),
-        Err(number) => (number, 0),
+    let buffer = &mut buffer[..length.min(BUFFER as u64) as usize];
+    let (number, counts) = match call(buffer) {
+        Ok(counts) => (DONE, counts),
+        Err(number) => (number, [0; COUNTS]),
     };
+    write!(output, "{number}")?;
+    counts.iter().try_for_each(|count| write!(output, " {count:016x}"))?;
     let space = if buffer.is_empty() { "" } else { " " };
-    writeln!(output, "{number} {count:016x}{space}{}", hex(buffer))
+    writeln!(output, "{space}{}", hex(buffer))
 }

@@ -16,6 +16,10 @@ fn admit(floats: &[&dyn Finite], window: &[Interval]) -> Answer<()> {
     }
 }
 
+pub fn admit_window(window: &Rect) -> Answer<()> {
+    admit(&[], &[window.x, window.y])
+}
+
 pub fn interpolate(x: f64, a: f64, b: f64, a1: f64, b1: f64) -> Answer<f64> {
     admit(&[&x, &a, &b, &a1, &b1], &[])?;
     Ok(private::interpolate(x, a, b, a1, b1))

@@ -62,6 +62,24 @@ impl Family {
     }
 }
 
+/// Where the floats of a record or a trace come from: one family, but in one of eight each has its own.
+#[derive(Clone, Copy)]
+pub struct Source {
+    shared: Family,
+    mixed: bool,
+}
+
+impl Source {
+    pub fn any(random: &mut Random) -> Source {
+        Source { shared: Family::any(random), mixed: random.once_in(8) }
+    }
+
+    pub fn draw(self, random: &mut Random) -> f64 {
+        let family = if self.mixed { Family::any(random) } else { self.shared };
+        family.draw(random)
+    }
+}
+
 /// A power of two or an eighth part more of it, and now and then a float next to that.
 fn near_power(random: &mut Random, low: i64, high: i64) -> f64 {
     let eighths = if random.coin() { 8 } else { random.between(8, 15) };

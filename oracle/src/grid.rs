@@ -6,8 +6,9 @@ use std::io::{self, BufWriter, Write};
 
 /// Operations and, for each word of their arguments, the list that it runs through: F, A, D 0 to 7; b 0 to 2; L a few
 /// lengths; x floats of all sorts, not finite ones among them; t small floats of both signs; g 0 to 3; h 0 to 2; e the
-/// ends 0 and 2; c -1 to 1; m the middle of a face.
-const GRID: [(u64, &str); 48] = [
+/// ends 0 and 2; c -1 to 1; m the middle of a face. For a trace: C counts of floats, S six of them; R lengths about
+/// whole records, T about two, E exactly two; d floats of live and dead samples; a digit that float.
+const GRID: [(u64, &str); 51] = [
     (1, "xxxx"),
     (2, "xxxx"),
     (3, "xxx"),
@@ -56,6 +57,9 @@ const GRID: [(u64, &str); 48] = [
     (54, "xxxb"),
     (55, "FccbtttF"),
     (60, "FmmFmmtttL"),
+    (61, "CRhhhh0031132202133120"),
+    (61, "ST0022dddddd"),
+    (61, "SEhhhhhhhhhh"),
 ];
 
 /// Operations up to this one are also asked with all arguments zero, listed or not.
@@ -99,6 +103,13 @@ fn list(letter: char) -> Vec<u64> {
         'e' => floats(&[0.0, 2.0]),
         'c' => floats(&[-1.0, 0.0, 1.0]),
         'm' => floats(&[0.0]),
+        'C' => vec![0, 1, 2, 3, 4, 5, 6, 15, 16, 17],
+        'S' => vec![6],
+        'R' => vec![0, 39, 40, 41, 79, 80, 81, 279, 280, 281, 400, 401],
+        'T' => vec![79, 80, 81],
+        'E' => vec![80],
+        'd' => floats(&[1.0, 3.0, f64::NAN, f64::NEG_INFINITY]),
+        '0'..='9' => floats(&[f64::from(letter as u8 - b'0')]),
         _ => unreachable!("no list is called {letter}"),
     }
 }

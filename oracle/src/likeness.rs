@@ -1,11 +1,8 @@
-//! How alike two lines are. Only floats may differ in a zero's sign or a NaN's bits; any other word (a yes or no, a
-//! face, an axis, a count) and any byte has to be the same.
+//! How alike two lines are, or two records. Only floats may differ in a zero's sign or a NaN's bits; any other word (a
+//! yes or no, a face, an axis, a count) and any byte has to be the same.
 
-/// Digits of a word.
-const GROUP: usize = 16;
-
-/// Digits of a walk's record, its floats from the second group on.
-const WALK_RECORD: usize = 5 * GROUP;
+use crate::number::DONE;
+use crate::walk::RECORD;
 
 /// From best to worst.
 #[derive(Clone, Copy, PartialEq, Eq, PartialOrd, Ord)]
@@ -24,8 +21,10 @@ pub fn compare(results: &str, a: &[u8], b: &[u8]) -> Likeness {
         return Same;
     }
     let (Some(a), Some(b)) = (carried(a), carried(b)) else { return Different };
-    if results == "W" {
-        return compare_walks(&a, &b);
+    match results {
+        "W" => return compare_lent::<1>(&a, &b, compare_segments),
+        "T" => return compare_lent::<4>(&a, &b, compare_edges),
+        _ => {}
     }
     let floats: Vec<bool> = results.chars().flat_map(floats_in).collect();
     if a.len() != floats.len() || b.len() != floats.len() {
@@ -50,26 +49,50 @@ fn floats_in(kind: char) -> std::iter::RepeatN<bool> {
     std::iter::repeat_n(float, count)
 }
 
-/// The groups after a 0. After another number the text itself counts: a refused walk's line shows its whole buffer.
+/// The groups after a 0. After another number the text itself counts: a refused walk's or trace's line shows its whole
+/// buffer.
 fn carried(line: &[u8]) -> Option<Vec<&[u8]>> {
     let groups = line.strip_prefix(b"0 ")?.strip_suffix(b"\n")?;
     Some(groups.split(|byte| *byte == b' ').collect())
 }
 
-/// The count and the buffer: in the records that were written the floats are numbers; all else is bytes.
-fn compare_walks(a: &[&[u8]], b: &[&[u8]]) -> Likeness {
-    let ([a_count, a_buffer], [b_count, b_buffer]) = (a, b) else { return Different };
-    let written = word(a_count).map_or(0, |count| (count as usize).saturating_mul(WALK_RECORD));
-    let halves = (a_buffer.split_at_checked(written), b_buffer.split_at_checked(written));
+/// The counts and the buffer. The last count is that of the records in it; the bytes after them have to be the same.
+fn compare_lent<const COUNTS: usize>(
+    a: &[&[u8]],
+    b: &[&[u8]],
+    compare_records: fn(&[u8; RECORD], &[u8; RECORD]) -> Likeness,
+) -> Likeness {
+    let (Some((counts, [a])), Some((b_counts, [b]))) =
+        (a.split_first_chunk::<COUNTS>(), b.split_first_chunk::<COUNTS>())
+    else {
+        return Different;
+    };
+    let (Some(a), Some(b), Some(count)) = (bytes(a), bytes(b), word(counts[COUNTS - 1])) else { return Different };
+    let written = (count as usize).saturating_mul(RECORD);
+    let halves = (a.split_at_checked(written), b.split_at_checked(written));
     let (Some((a, a_rest)), Some((b, b_rest))) = halves else { return Different };
-    let mut likeness = compare_bytes(a_count, b_count).max(compare_bytes(a_rest, b_rest));
-    for (place, (a, b)) in a.chunks(GROUP).zip(b.chunks(GROUP)).enumerate() {
-        likeness = likeness.max(match place * GROUP % WALK_RECORD {
-            0 => compare_bytes(a, b),
-            _ => compare_floats(word(a).map(u64::swap_bytes), word(b).map(u64::swap_bytes)),
-        });
+    if counts != b_counts || a_rest != b_rest {
+        return Different;
     }
-    likeness
+    let pairs = a.as_chunks().0.iter().zip(b.as_chunks().0);
+    pairs.map(|(a, b)| compare_records(a, b)).max().unwrap_or(Same)
+}
+
+/// The records of two walks: the first eight bytes, and four floats.
+fn compare_segments(a: &[u8; RECORD], b: &[u8; RECORD]) -> Likeness {
+    let ((a_head, a), (b_head, b)) = (a.split_at(8), b.split_at(8));
+    let float = |bytes: &[u8; 8]| Some(u64::from_le_bytes(*bytes));
+    let floats = a.as_chunks().0.iter().zip(b.as_chunks().0).map(|(a, b)| compare_floats(float(a), float(b)));
+    compare_bytes(a_head, b_head).max(floats.max().unwrap_or(Different))
+}
+
+/// The records of two edges of a trace: the floats are numbers where the edge is kept, and else zeros that W1 fixes.
+pub fn compare_edges(a: &[u8; RECORD], b: &[u8; RECORD]) -> Likeness {
+    if a[0] == DONE {
+        compare_segments(a, b)
+    } else {
+        compare_bytes(a, b)
+    }
 }
 
 fn compare_bytes(a: &[u8], b: &[u8]) -> Likeness {
@@ -91,13 +114,21 @@ fn compare_floats(a: Option<u64>, b: Option<u64>) -> Likeness {
     }
 }
 
-/// The value of 16 lower-case hex digits.
+/// The value of 16 hex digits.
 fn word(group: &[u8]) -> Option<u64> {
-    let lower_case = |byte: &u8| matches!(byte, b'0'..=b'9' | b'a'..=b'f');
-    if group.len() != GROUP || !group.iter().all(lower_case) {
-        return None;
-    }
-    u64::from_str_radix(std::str::from_utf8(group).ok()?, 16).ok()
+    Some(u64::from_be_bytes(bytes(group)?.try_into().ok()?))
+}
+
+/// The bytes of lower-case hex digits.
+fn bytes(digits: &[u8]) -> Option<Vec<u8>> {
+    let digit = |digit: u8| match digit {
+        b'0'..=b'9' => Some(digit - b'0'),
+        b'a'..=b'f' => Some(digit - b'a' + 10),
+        _ => None,
+    };
+    let (pairs, odd) = digits.as_chunks();
+    let bytes = pairs.iter().map(|[high, low]| Some(digit(*high)? << 4 | digit(*low)?));
+    bytes.collect::<Option<_>>().filter(|_| odd.is_empty())
 }
 
 #[cfg(test)]
@@ -115,6 +146,11 @@ mod tests {
 
     fn walk(records: &str, rest: &str) -> String {
         format!("0 0000000000000001 {}{rest}\n", records.replace(' ', ""))
+    }
+
+    /// Results with a buffer have no kinds of words.
+    fn lent(results: &str) -> bool {
+        ["W", "T"].contains(&results)
     }
 
     fn likeness(results: &str, a: &str, b: &str) -> Likeness {
@@ -171,6 +207,30 @@ mod tests {
         assert!(likeness(&line.replace("0001 ", "0002 ")) == Different);
     }
 
+    #[test]
+    fn traces() {
+        let kept = RECORDS.replace(' ', "");
+        let refused = format!("02{}", "0".repeat(78));
+        let trace = |kept: &str, refused: &str, rest: &str| {
+            format!("0 0000000000000001 0000000000000000 0000000000000001 0000000000000002 {kept}{refused}{rest}\n")
+        };
+        let line = trace(&kept, &refused, "a5");
+        let likeness = |other: &str| likeness("T", &line, other);
+        let spaced = |from: &str, to: &str| RECORDS.replacen(from, to, 1).replace(' ', "");
+        assert!(likeness(&trace(&spaced("80 ", "00 "), &refused, "a5")) == SameButForAZero);
+        assert!(likeness(&trace(&spaced("f03f", "f0bf"), &refused, "a5")) == Different);
+        assert!(likeness(&trace(&spaced("00 ", "80 "), &refused, "a5")) == Different, "a byte before floats");
+        let minus_zero = format!("{}80", &refused[..78]);
+        assert!(likeness(&trace(&kept, &minus_zero, "a5")) == Different, "no zero of the crate's");
+        assert!(likeness(&trace(&kept, &refused.replacen('2', "1", 1), "a5")) == Different);
+        assert!(likeness(&trace(&kept, &refused, "a4")) == Different);
+        assert!(likeness(&line.replacen("01 ", "00 ", 1)) == Different, "a count");
+        assert!(likeness(&line.replace("02 ", "01 ")) == Different, "a count of records");
+        let none = "0 0000000000000000 0000000000000000 0000000000000000 0000000000000000\n";
+        assert!(compare("T", none.as_bytes(), none.as_bytes()) == Same);
+        assert!(compare("T", none.as_bytes(), line.as_bytes()) == Different);
+    }
+
     /// A whole word is always small, and a float is not always: so the kinds are those of the crate's own answers.
     #[test]
     fn kinds_of_results() {
@@ -180,7 +240,7 @@ mod tests {
             let request = request(&mut random);
             let results = kinds(request[0]).1;
             let line = line_of(&request, Zeros::Crates);
-            let Some(groups) = carried(line.as_bytes()).filter(|_| results != "W") else { continue };
+            let Some(groups) = carried(line.as_bytes()).filter(|_| !lent(results)) else { continue };
             let floats: Vec<bool> = results.chars().flat_map(floats_in).collect();
             assert_eq!(groups.len(), floats.len(), "operation {}", request[0]);
             for (place, group) in groups.iter().enumerate() {
@@ -190,7 +250,7 @@ mod tests {
                 }
             }
         }
-        for (operation, _, results) in OPERATIONS.iter().filter(|(_, _, results)| *results != "W") {
+        for (operation, _, results) in OPERATIONS.iter().filter(|(_, _, results)| !lent(results)) {
             for (place, float) in results.chars().flat_map(floats_in).enumerate() {
                 // The empty rectangle's high corner is (0,0).
                 let can_be_great = float && (*operation, place / 2) != (19, 1);

@@ -2,6 +2,8 @@
 
 mod agree;
 mod answers;
+#[cfg(test)]
+mod classes;
 mod clip;
 mod crate_s2;
 mod cube;
@@ -26,8 +28,11 @@ mod random;
 mod records;
 mod requests;
 mod same;
+mod samples;
 mod shapes;
 mod stream;
+mod trace;
+mod traces;
 mod walk;
 mod whole;
 mod words;
@@ -46,12 +51,14 @@ const USAGE: &str = "\
 oracle cut < RECORDS            a line for each 64-byte record, as document 01's program writes it
 oracle crate-cut < RECORDS      the same from the crate alone, nothing refused: a dead sample is drawn
 oracle records KIND N SEED      N seeded records; KIND is bits or edges
+oracle trace < SAMPLES          a 40-byte record for each edge of a trace: a window, then samples, all floats of 8 bytes
+oracle samples N SEED           a window and N seeded samples
 oracle answers < REQUESTS       a line for each 192-byte request, as the answering program writes it
 oracle list < REQUESTS          the same, but where the crate leaves a zero's sign open it is as our definitions have it
 oracle requests N SEED          N seeded requests, every operation among them
 oracle grid                     every request over short lists of words
 oracle kept                     the requests that keep docs/DIFFERENCES.md
-oracle same PROGRAM INPUT A B   compares two files of PROGRAM's lines to INPUT; 1 when they differ; cut or answers";
+oracle same PROGRAM INPUT A B   compares two files that cut, answers or trace wrote for INPUT; 1 when they differ";
 
 fn main() -> ExitCode {
     let arguments: Vec<String> = env::args().skip(1).collect();
@@ -71,6 +78,8 @@ fn run(arguments: &[&str]) -> io::Result<bool> {
     match arguments {
         ["cut"] => cut::run(clip::clip_edge)?,
         ["crate-cut"] => cut::run(clip::clip_edge_unrefused)?,
+        ["trace"] => trace::run()?,
+        ["samples", count, seed] => samples::run(whole(count)?, whole(seed)?)?,
         ["answers"] => answers::run(Zeros::Crates)?,
         ["list"] => answers::run(Zeros::Ours)?,
         ["requests", count, seed] => requests::run(whole(count)?, whole(seed)?)?,

@@ -1,4 +1,4 @@
-//! The numbers that document 01 gives back. Each stands under one name, here and nowhere else.
+//! The numbers that document 01 and the change requests give back. Each stands under one name, here and nowhere else.
 
 pub type Number = u8;
 
@@ -15,7 +15,9 @@ pub const FACE_MISSED: Number = 6;
 pub const TARGET_NOT_REACHED: Number = 7;
 pub const BUFFER_TOO_SHORT: Number = 8;
 pub const TORN_INPUT: Number = 9;
-/// Not document 01's: the answering program knows no such operation.
+/// An odd count of floats, or more samples than a trace may have.
+pub const BAD_TRACE: Number = 10;
+/// None of these: the answering program knows no such operation.
 pub const NO_SUCH_OPERATION: Number = 255;
 
 /// What is given back: values, or the number of a miss or a refusal.

@@ -1,9 +1,9 @@
 //! The operations of the answering program, the kinds of words that each takes and the kinds that it gives.
 
 /// f a float, p a point, i an interval, r a rectangle or window, v a vector, n a normal, F a face, A an axis number,
-/// D a direction, b a word that is 0 or not (a yes/no, a corner's side, an axis), L a buffer's length, W a walk: the
-/// count of its records and the buffer.
-pub const OPERATIONS: [(u64, &str, &str); 48] = [
+/// D a direction, b a word that is 0 or not (a yes/no, a corner's side, an axis), L a buffer's length, C a count of
+/// floats, S so many of them; W a walk: the count of its records and the buffer, T a trace: its counts and the buffer.
+pub const OPERATIONS: [(u64, &str, &str); 49] = [
     (1, "pp", "p"),
     (2, "pp", "p"),
     (3, "pf", "p"),
@@ -52,10 +52,11 @@ pub const OPERATIONS: [(u64, &str, &str); 48] = [
     (54, "nb", "p"),
     (55, "FpbnF", "F"),
     (60, "FpFpnL", "W"),
+    (61, "CLrS", "T"),
 ];
 
 /// The operations whose answers are hardest to get right: they are asked more often.
-pub const HARD: [u64; 6] = [34, 50, 51, 52, 60, 60];
+pub const HARD: [u64; 7] = [34, 50, 51, 52, 60, 60, 61];
 
 /// The kinds of an operation's arguments and of its results; none where it is not listed.
 pub fn kinds(operation: u64) -> (&'static str, &'static str) {

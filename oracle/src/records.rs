@@ -10,13 +10,14 @@
 //! other point's. Last, in one record of 24 the sides of an axis are exchanged, in one of 24 one of the eight is not
 //! finite, and in one of 64 two are, so that the order of refusals shows.
 
-use crate::floats::{neighbour, not_finite, zero, Family};
+use crate::floats::{neighbour, not_finite, zero, Source};
 use crate::random::Random;
 use crate::stream::write_words;
 use std::io::{self, BufWriter, Write};
 
 /// a.x, a.y, b.x, b.y, window low x, low y, high x, high y: a point's or corner's coordinate on an axis is 2 apart.
 type Record = [f64; 8];
+type Point = [f64; 2];
 
 const A: usize = 0;
 const B: usize = 2;
@@ -42,12 +43,12 @@ fn bits(random: &mut Random) -> Record {
 }
 
 pub fn edge(random: &mut Random) -> Record {
-    let shared = Family::any(random);
-    let mixed = random.once_in(8);
-    let mut record: Record = std::array::from_fn(|_| {
-        let family = if mixed { Family::any(random) } else { shared };
-        family.draw(random)
-    });
+    let source = Source::any(random);
+    edge_of(random, source)
+}
+
+pub fn edge_of(random: &mut Random, source: Source) -> Record {
+    let mut record: Record = std::array::from_fn(|_| source.draw(random));
     for axis in 0..2 {
         if record[LOW + axis] > record[HIGH + axis] {
             record.swap(LOW + axis, HIGH + axis);
@@ -58,6 +59,18 @@ pub fn edge(random: &mut Random) -> Record {
     }
     spoil(random, &mut record);
     record
+}
+
+/// The point b, related so many times to a point and a window: a sample after another in a trace.
+pub fn related(random: &mut Random, a: Point, b: Point, window: [f64; 4], times: u64) -> Point {
+    let mut record = [0.0; 8];
+    record[A..B].copy_from_slice(&a);
+    record[B..LOW].copy_from_slice(&b);
+    record[LOW..].copy_from_slice(&window);
+    for _ in 0..times {
+        relate(random, &mut record);
+    }
+    [record[B], record[B + 1]]
 }
 
 /// One of the relations that the comment above lists. An exchange of sides by a later one is welcome.

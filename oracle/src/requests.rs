@@ -3,10 +3,11 @@
 //! The floats of a request come from one family (see `floats.rs`; in one request of eight each has its own). Intervals
 //! and rectangles are put in order, but for one axis in eight. Most requests of operations 30 to 35 are shaped after an
 //! edge and a window of `oracle records edges`, normals after what is close to a tie, half of the exits of operation 55
-//! are corners (see `shapes.rs`). In the others up to two floats are bound: equal to another, next to it, opposite, the
-//! sum of two, or a zero of either sign. Last, in one request of 16 a float is not finite, in one of 64 two are. Faces,
-//! axes and directions are too great in one of 16, a buffer has any length, and in one request of 64 the operation is
-//! any word. The words after the arguments are random: they have to be ignored.
+//! are corners (see `shapes.rs`); operation 61 has traces (see `traces.rs`). In the others up to two floats are bound:
+//! equal to another, next to it, opposite, the sum of two, or a zero of either sign. Last, in one request of 16 a float
+//! is not finite, in one of 64 two are. Faces, axes and directions are too great in one of 16, a buffer has any length,
+//! and in one request of 64 the operation is any word. The words after the arguments are random: they have to be
+//! ignored.
 
 use crate::answers::REQUEST;
 use crate::floats::{neighbour, not_finite, zero, Family};
@@ -14,6 +15,7 @@ use crate::operations::{kinds, HARD, OPERATIONS};
 use crate::random::Random;
 use crate::shapes;
 use crate::stream::write_words;
+use crate::traces;
 use std::io::{self, BufWriter, Write};
 
 #[derive(Clone, Copy)]
@@ -42,6 +44,7 @@ pub fn request(random: &mut Random) -> [u64; REQUEST] {
     let mut arguments = match operation {
         30..=35 if !random.once_in(4) => shapes::around_edge(random, operation),
         55 if random.coin() => shapes::at_corner(random),
+        61 => traces::arguments(random),
         _ => plain_arguments(random, operation),
     };
     spoil(random, &mut floats_of(&mut arguments));

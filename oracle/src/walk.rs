@@ -6,7 +6,7 @@ use crate::number::{Answer, BUFFER_TOO_SHORT};
 use crate::promises;
 use crate::r2::point::Point;
 use crate::r3::vector::Vector;
-use crate::s2::edge_clipping::{private, FaceSegment};
+use crate::s2::edge_clipping::private;
 
 /// The target has to be among so many faces.
 const FACES: usize = 8;
@@ -25,17 +25,16 @@ pub fn walk(face: u64, a: Point, target: u64, b: Point, normal: Vector, buffer: 
         return Err(BUFFER_TOO_SHORT);
     }
     for (segment, place) in segments.iter().zip(buffer.as_chunks_mut().0) {
-        *place = record(segment);
+        *place = record(segment.face, segment.a, segment.b);
     }
     Ok(segments.len())
 }
 
-/// Face, seven zero bytes, then a.u, a.v, b.u, b.v.
-fn record(segment: &FaceSegment) -> [u8; RECORD] {
+/// A first byte (a face, or the number of an edge's answer), seven zero bytes, then the coordinates of a and b.
+pub fn record(first: u8, a: Point, b: Point) -> [u8; RECORD] {
     let mut bytes = [0; RECORD];
-    bytes[0] = segment.face;
-    let floats = [segment.a.x, segment.a.y, segment.b.x, segment.b.y];
-    for (place, float) in bytes[8..].as_chunks_mut().0.iter_mut().zip(floats) {
+    bytes[0] = first;
+    for (place, float) in bytes[8..].as_chunks_mut().0.iter_mut().zip([a.x, a.y, b.x, b.y]) {
         *place = float.to_bits().to_le_bytes();
     }
     bytes

@@ -3,6 +3,7 @@
 use crate::r1::interval::Interval;
 use crate::r2::{point::Point, rect::Rect};
 use crate::r3::vector::Vector;
+use crate::trace::Counts;
 use crate::Refusal;
 
 /// The number, and what stands beside it: the header's answers, but for one. Floats in a struct of their own lie where
@@ -150,4 +151,19 @@ pub(crate) fn umb_walk(
     // SAFETY: it is declared as in the header, and is lent a slice's bytes: not null, as many as it is told, and no one
     // else's until it is back.
     unsafe { umb_walk(face, a, target, b, normal, out.as_mut_ptr(), out.len()) }.result()
+}
+
+pub(crate) fn umb_cut_trace(samples: &[f64], window: Rect, out: &mut [u8]) -> Result<Counts, Refusal> {
+    extern "C" {
+        fn umb_cut_trace(
+            samples: *const f64,
+            samples_length: usize,
+            window: Rect,
+            out: *mut u8,
+            out_length: usize,
+        ) -> Numbered<Counts>;
+    }
+    // SAFETY: it is declared as in the header, and is lent two slices that do not overlap: not null, as long as it is
+    // told; the samples are only read, and the bytes are no one else's until it is back.
+    unsafe { umb_cut_trace(samples.as_ptr(), samples.len(), window, out.as_mut_ptr(), out.len()) }.result()
 }

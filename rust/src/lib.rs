@@ -26,6 +26,8 @@ mod refusal;
 
 pub use refusal::Refusal;
 
+pub mod trace;
+
 /// Has the example of the README run.
 #[cfg(doctest)]
 #[doc = include_str!("../README.md")]

@@ -22,14 +22,16 @@ pub enum Refusal {
     OffFace = 6,
     /// The walk does not come to the target, and no longer one would.
     Unfinished = 7,
-    /// The buffer holds fewer whole records than the walk has.
+    /// The buffer holds fewer whole records than there are.
     ShortBuffer = 8,
+    /// A trace has an odd count of floats, or more than 4,096 samples.
+    BadTrace = 10,
     /// A number that has no name here: the archive is of another version.
     Unnamed = 255,
 }
 
 impl Refusal {
-    const NAMED: [Refusal; 8] = [
+    const NAMED: [Refusal; 9] = [
         Refusal::Missed,
         Refusal::NotFinite,
         Refusal::BadWindow,
@@ -38,6 +40,7 @@ impl Refusal {
         Refusal::OffFace,
         Refusal::Unfinished,
         Refusal::ShortBuffer,
+        Refusal::BadTrace,
     ];
 
     /// The library's number.
@@ -64,7 +67,8 @@ impl Display for Refusal {
             Refusal::Zero => "a vector, a normal or a divisor is zero",
             Refusal::OffFace => "the line does not meet the face",
             Refusal::Unfinished => "the walk does not come to the target",
-            Refusal::ShortBuffer => "the buffer is too short for the walk",
+            Refusal::ShortBuffer => "the buffer is too short for the records",
+            Refusal::BadTrace => "the trace has an odd count of floats, or more than 4,096 samples",
             Refusal::Unnamed => "a number that has no name here",
         })
     }
@@ -79,11 +83,13 @@ mod tests {
     #[test]
     fn every_number() {
         assert_eq!(Refusal::unless_done(0, "done"), Ok("done"));
-        for (number, named) in (1..=8).zip(Refusal::NAMED) {
+        // 9 is the programs' alone.
+        let numbers = [1, 2, 3, 4, 5, 6, 7, 8, 10];
+        for (number, named) in numbers.into_iter().zip(Refusal::NAMED) {
             assert_eq!(named.number(), number);
             assert_eq!(Refusal::unless_done(number, ()), Err(named));
         }
-        for number in 9..=u8::MAX {
+        for number in (1..=u8::MAX).filter(|number| !numbers.contains(number)) {
             assert_eq!(Refusal::unless_done(number, ()), Err(Refusal::Unnamed));
         }
     }

@@ -155,6 +155,16 @@ answer of_walk(umb_walk_answer a)
     return w;
 }
 
+answer of_trace(umb_trace_answer a)
+{
+    answer w = beside(a.number);
+    put_word(&w, a.kept);
+    put_word(&w, a.missed);
+    put_word(&w, a.refused);
+    put_word(&w, a.edges);
+    return w;
+}
+
 answer both(answer one, answer other)
 {
     for (size_t i = 0; i < other.count; i++)

@@ -34,7 +34,7 @@ void write_answer(const answer *a)
     putchar('\n');
 }
 
-void write_walk(const answer *a, const uint8_t *bytes, size_t length)
+void write_lent(const answer *a, const uint8_t *bytes, size_t length)
 {
     write_words(a);
     if (length > 0)

@@ -6,7 +6,7 @@
 /* The number and, beside 0, the words. */
 void write_answer(const answer *a);
 /* The number and the words whatever the number, then the buffer's bytes. */
-void write_walk(const answer *a, const uint8_t *bytes, size_t length);
+void write_lent(const answer *a, const uint8_t *bytes, size_t length);
 void write_number(uint8_t number);
 
 #endif

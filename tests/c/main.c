@@ -1,13 +1,19 @@
 /* Answers requests by the library: 192 bytes each on standard input, a line each on standard output. Beside the lines
  * it checks what no line shows, and ends with 1 where one of these fails: zeros stand beside any number but 0, the same
- * call gives the same answer, and a walk leaves alone what was not lent to it. */
+ * call gives the same answer, a walk and a trace leave alone what was not lent to them, and the records of traces that
+ * are longer than a request can hold are the answers for their edges. */
 #include "calls.h"
 #include "line.h"
+#include "long_trace.h"
+#include "trace.h"
 #include "walk.h"
 
 #include <stdio.h>
 
-enum { WALK = 60, TORN_INPUT = 9, NO_SUCH_OPERATION = 255 };
+enum { WALK = 60, TRACE = 61, TORN_INPUT = 9, NO_SUCH_OPERATION = 255 };
+
+/* A call with a buffer of this length lent to it. */
+typedef lent lent_call(const request *r, size_t length);
 
 static size_t place; /* of the request that is being answered */
 static bool all_hold = true;
@@ -25,23 +31,24 @@ static void must_be_sound(const answer *a)
     must_hold(zeros_beside_number(a), "zeros beside a number that is not 0");
 }
 
-/* With nothing lent a walk that would be done has no room, and any other number stays. */
-static void answer_with_nothing_lent(const request *r, uint8_t number)
+/* With nothing lent a call that would write records has no room, and else the number stays. */
+static void answer_with_nothing_lent(const request *r, lent_call *call, const answer *a)
 {
-    const walked none = walk(r, 0);
+    const lent none = call(r, 0);
+    const bool writes = a->number == UMB_DONE && a->words[a->count - 1] > 0;
     must_be_sound(&none.answer);
-    must_hold(none.intact, "a walk with nothing lent writes nothing");
-    must_hold(none.answer.number == (number == UMB_DONE ? UMB_SHORT_BUFFER : number), "no room where nothing is lent");
+    must_hold(none.intact, "with nothing lent nothing is written");
+    must_hold(none.answer.number == (writes ? UMB_SHORT_BUFFER : a->number), "no room where nothing is lent");
 }
 
-static void answer_walk(const request *r)
+static void answer_lent(const request *r, lent_call *call, size_t length)
 {
-    const walked first = walk(r, walk_length(r)), again = walk(r, walk_length(r));
-    write_walk(&first.answer, first.bytes, first.length);
+    const lent first = call(r, length), again = call(r, length);
+    write_lent(&first.answer, first.bytes, first.length);
     must_be_sound(&first.answer);
-    must_hold(first.intact && again.intact, "a walk writes in what it is lent");
-    must_hold(same_walk(&first, &again), "the same walk gives the same answer");
-    answer_with_nothing_lent(r, first.answer.number);
+    must_hold(first.intact && again.intact, "it writes in what it is lent");
+    must_hold(same_lent(&first, &again), "the same call gives the same answer and bytes");
+    answer_with_nothing_lent(r, call, &first.answer);
 }
 
 static void answer_call(const request *r)
@@ -57,19 +64,36 @@ static void answer_call(const request *r)
     must_hold(same_answer(&first, &again), "the same call gives the same answer");
 }
 
+static void answer_request(const request *r)
+{
+    if (r->words[0] == WALK)
+        answer_lent(r, walk, walk_length(r));
+    else if (r->words[0] == TRACE)
+        answer_lent(r, trace, trace_length(r));
+    else
+        answer_call(r);
+}
+
+static void check_long_traces(void)
+{
+    const char *const wrong = wrong_with_long_traces();
+    if (wrong != NULL) {
+        fprintf(stderr, "long traces: not so: %s\n", wrong);
+        all_hold = false;
+    }
+}
+
 int main(void)
 {
     uint8_t bytes[REQUEST_BYTES];
     size_t length;
     while ((length = fread(bytes, 1, sizeof bytes, stdin)) == sizeof bytes) {
         const request r = request_of(bytes);
-        if (r.words[0] == WALK)
-            answer_walk(&r);
-        else
-            answer_call(&r);
+        answer_request(&r);
         place++;
     }
     if (length > 0)
         write_number(TORN_INPUT);
+    check_long_traces();
     return all_hold && !ferror(stdin) && fflush(stdout) == 0 ? 0 : 1;
 }

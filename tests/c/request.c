@@ -3,7 +3,7 @@
 
 #include <string.h>
 
-static uint64_t word_of(const uint8_t *bytes)
+uint64_t word_of(const uint8_t *bytes)
 {
     uint64_t word = 0;
     for (size_t i = 8; i > 0; i--)
@@ -56,6 +56,11 @@ umb_uv uv_at(const request *r, size_t place)
 bool yes_at(const request *r, size_t place)
 {
     return r->words[place] != 0;
+}
+
+size_t length_at(const request *r, size_t place, size_t limit)
+{
+    return r->words[place] < limit ? (size_t)r->words[place] : limit;
 }
 
 uint8_t number_at(const request *r, size_t place)

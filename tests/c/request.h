@@ -10,6 +10,8 @@ typedef struct request {
     uint64_t words[REQUEST_WORDS];
 } request;
 
+/* The word that begins at this byte. */
+uint64_t word_of(const uint8_t *bytes);
 request request_of(const uint8_t bytes[REQUEST_BYTES]);
 
 double float_at(const request *r, size_t place);
@@ -21,5 +23,7 @@ umb_uv uv_at(const request *r, size_t place);
 bool yes_at(const request *r, size_t place);
 /* A face, axis or direction: 255 for a word above it. */
 uint8_t number_at(const request *r, size_t place);
+/* A length: the limit for a word above it. */
+size_t length_at(const request *r, size_t place, size_t limit);
 
 #endif

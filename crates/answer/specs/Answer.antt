@@ -41,13 +41,17 @@ offFace = 6
 abbrev pub unfinished : ℕ
 unfinished = 7
 
--- the buffer holds fewer whole records than the walk has
+-- the buffer holds fewer whole records than the walk or the trace has
 abbrev pub shortBuffer : ℕ
 shortBuffer = 8
 
 -- the program's input ends in 1 to 63 bytes beyond whole records
 abbrev pub torn : ℕ
 torn = 9
+
+-- a trace of an odd count of floats, or of more than 4,096 samples
+abbrev pub badTrace : ℕ
+badTrace = 10
 
 -- Refusals in their order: the first that applies gives its number, and the rest is not looked at.
 abbrev pub unless_refuse_else_ : Bool → ℕ → ℕ → ℕ

@@ -19,10 +19,12 @@ pub const ZERO: u8 = 5;
 pub const OFF_FACE: u8 = 6;
 // The target is not among the first 8 faces.
 pub const UNFINISHED: u8 = 7;
-// The buffer holds fewer whole records than the walk has.
+// The buffer holds fewer whole records than the walk or the trace has.
 pub const SHORT_BUFFER: u8 = 8;
 // The program's input ends in part of a record.
 pub const TORN: u8 = 9;
+// A trace of an odd count of floats, or of more than 4,096 samples.
+pub const BAD_TRACE: u8 = 10;
 
 // A float beside the number 0, or zero beside another.
 #[repr(C)]

@@ -11,19 +11,31 @@ use Rattle.buffer.specs.Digits.{digitOf}
 use Rattle.buffer.specs.Text.{lineEnds}
 use Rattle.buffer.proofs.Text.{joins-blocks}
 use Rattle.buffer.proofs.Ends.{ends-append, no-end, digit-no-end, ends-group, one-line-each}
-use Rattle.walk.specs.declared.compute.WalkAnswer.{WalkAnswer}
 use Rattle.answers.specs.declared.reply.Reply.{Reply}
 use Rattle.answers.specs.Request.{wordOf}
-use Rattle.answers.specs.Number.{numberText}
-use Rattle.answers.specs.Walked.{twoDigits, bytesFrom, spacedBytes, walkedLine, walkLineOn, walkLine}
-use Rattle.answers.specs.Line.{groupsFrom, replyLine, lineOf, tornLine}
+use Rattle.answers.specs.Number.{numberText, groupsFrom}
+use Rattle.answers.specs.Lent.{twoDigits, bytesFrom, spacedBytes, shownLine}
+use Rattle.answers.specs.Walked.{walkedLine, walkLineOn, walkLine}
+use Rattle.answers.specs.Traced.{tracedLine, traceLineOn, traceLine}
+use Rattle.answers.specs.Line.{replyLine, lineOf, tornLine}
 use Rattle.answers.specs.Promises.{Promises}
 
 -- ---- a line has one line end, at its end
+abbrev Ended : List ℕ → Type 0
+Ended l = lineEnds l ≡ 1
+
+abbrev Endless : List ℕ → Type 0
+Endless l = lineEnds l ≡ 0
+
+ends-255 : Endless (50 ∷ 53 ∷ 53 ∷ [])
+unfolding lineEnds when_then_else_
+ends-255 = refl
+
 ends-number : (n : ℕ) → lineEnds (numberText n) ≡ 0
 unfolding numberText lineEnds
 ends-number n =
-    cases (λ (l : List ℕ). lineEnds l ≡ 0) (leb n 9) ((48 + n) ∷ []) (50 ∷ 53 ∷ 53 ∷ []) (λ h. no-end (48 + n) [] (λ e. omega arith)) (λ h. unfold when_then_else_ in refl)
+    cases Endless (leb n 9) _ _ (λ h. no-end (48 + n) [] (λ e. omega arith))
+    (λ h. cases Endless (leb n 14) _ _ (λ k. no-end 49 ((38 + n) ∷ []) (λ e. omega arith) ∙ no-end (38 + n) [] (λ e. omega arith)) (λ k. ends-255))
 
 ends-groups : (ws : List ℕ) (i k : ℕ) → lineEnds (groupsFrom ws i k) ≡ 0
 unfolding groupsFrom lineEnds
@@ -41,23 +53,28 @@ ends-bytes bs i (suc k) = simp (ends-append, ends-two, ends-bytes bs (i + 1) k)
 
 ends-spaced : (bs : List ℕ) → lineEnds (spacedBytes bs) ≡ 0
 unfolding spacedBytes lineEnds
-ends-spaced bs = cases (λ (l : List ℕ). lineEnds l ≡ 0) (eqb (length bs) 0) [] (32 ∷ bytesFrom bs 0 (length bs)) (λ h. refl) (λ h. no-end 32 (bytesFrom bs 0 (length bs)) (λ e. omega arith) ∙ ends-bytes bs 0 (length bs))
+ends-spaced bs = cases Endless (eqb (length bs) 0) [] (32 ∷ bytesFrom bs 0 (length bs)) (λ h. refl) (λ h. no-end 32 (bytesFrom bs 0 (length bs)) (λ e. omega arith) ∙ ends-bytes bs 0 (length bs))
 
 ends-reply : (r : Reply) → lineEnds (replyLine r) ≡ 1
 unfolding replyLine lineEnds when_then_else_
 ends-reply r = simp (ends-append, ends-number, ends-groups)
 
-ends-walked : (a : WalkAnswer) (bs : List ℕ) → lineEnds (walkedLine a bs) ≡ 1
-unfolding walkedLine lineEnds when_then_else_
-ends-walked a bs = simp (ends-append, ends-number, ends-group, ends-spaced)
+ends-shown : (n : ℕ) (ws : List ℕ) (k : ℕ) (bs : List ℕ) → lineEnds (shownLine n ws k bs) ≡ 1
+unfolding shownLine lineEnds when_then_else_
+ends-shown n ws k bs = simp (ends-append, ends-number, ends-groups, ends-spaced)
 
 ends-walk : (s : List ℕ) → lineEnds (walkLine s) ≡ 1
-unfolding walkLine walkLineOn
-ends-walk s = ends-walked _ _
+unfolding walkLine walkLineOn walkedLine
+ends-walk s = ends-shown _ _ _ _
+
+ends-trace : (s : List ℕ) → lineEnds (traceLine s) ≡ 1
+unfolding traceLine traceLineOn tracedLine
+ends-trace s = ends-shown _ _ _ _
 
 ends-line : (s : List ℕ) → lineEnds (lineOf s) ≡ 1
 unfolding lineOf
-ends-line s = cases (λ (l : List ℕ). lineEnds l ≡ 1) (eqb (wordOf s 0) 60) _ _ (λ h. ends-walk s) (λ h. ends-reply _)
+ends-line s =
+    cases Ended (eqb (wordOf s 0) 60) _ _ (λ h. ends-walk s) (λ h. cases Ended (eqb (wordOf s 0) 61) _ _ (λ k. ends-trace s) (λ k. ends-reply _))
 
 ends-torn : lineEnds tornLine ≡ 1
 unfolding numberText lineEnds when_then_else_

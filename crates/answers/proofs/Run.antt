@@ -12,8 +12,9 @@ use Rattle.answers.specs.declared.reply.Reply.{Reply}
 use Rattle.answers.specs.Request.{wordOf}
 use Rattle.answers.specs.Table.{replyOf}
 use Rattle.answers.specs.Walked.{walkLine}
-use Rattle.answers.specs.Number.{numberText}
-use Rattle.answers.specs.Line.{groupsFrom, atMostEight, replyLine, lineOf}
+use Rattle.answers.specs.Traced.{traceLine}
+use Rattle.answers.specs.Number.{numberText, groupsFrom}
+use Rattle.answers.specs.Line.{atMostEight, replyLine, lineOf}
 
 -- ---- the number 255
 pub three-stored : (xs : List ℕ) (to a b c : ℕ) → set (set (set xs to a) (to + 1) b) (to + 2) c ≡ stored xs to (a ∷ b ∷ c ∷ [])
@@ -69,6 +70,10 @@ pub line-walk : (s : List ℕ) (w : ℕ) → w ≡ wordOf s 0 → w ≡ 60 → w
 unfolding lineOf
 line-walk s w e h = when-eq _ _ _ _ _ (sym e ∙ h) refl
 
-pub line-reply : (s : List ℕ) (w : ℕ) (r : Reply) → w ≡ wordOf s 0 → (w ≡ 60 → ⊥) → r ≡ replyOf s → replyLine r ≡ lineOf s
+pub line-trace : (s : List ℕ) (w : ℕ) → w ≡ wordOf s 0 → (w ≡ 60 → ⊥) → w ≡ 61 → traceLine s ≡ lineOf s
 unfolding lineOf
-line-reply s w r e h f = when-ne _ _ _ _ _ (λ k. h (e ∙ k)) (ap replyLine f)
+line-trace s w e h g = when-ne _ _ _ _ _ (λ k. h (e ∙ k)) (when-eq _ _ _ _ _ (sym e ∙ g) refl)
+
+pub line-reply : (s : List ℕ) (w : ℕ) (r : Reply) → w ≡ wordOf s 0 → (w ≡ 60 → ⊥) → (w ≡ 61 → ⊥) → r ≡ replyOf s → replyLine r ≡ lineOf s
+unfolding lineOf
+line-reply s w r e h g f = when-ne _ _ _ _ _ (λ k. h (e ∙ k)) (when-ne _ _ _ _ _ (λ k. g (e ∙ k)) (ap replyLine f))

@@ -1,22 +1,29 @@
--- The line of a walk: bytes as digits, one after the other.
+-- The lines of a walk and a trace: bytes as digits, one after the other.
 use Prim.Native.Nat.{ℕ, zero, suc, _+_, _-_, _*_, _≤_, _<_}
 use native.Mathlib.Omega.{arith}
 use mathlib.Core.Path.{_≡_, refl, sym, ap, _∙_}
 use mathlib.Core.List.{List, [], _∷_, _++_}
-use lib.ListN.{length, set, getD, take, replicate, length-append}
+use lib.Ieee.{Float}
+use lib.ListN.{length, set, getD, take, length-append}
 use Rattle.float.proofs.Choice.{when-eq, when-ne}
-use Rattle.buffer.specs.Bytes.{stored, placed}
-use Rattle.buffer.specs.Digits.{group}
-use Rattle.buffer.proofs.Stored.{stored-join, placed-then, length-group}
+use Rattle.buffer.specs.Bytes.{stored}
+use Rattle.buffer.proofs.Stored.{stored-join}
+use Rattle.plane.specs.declared.rect.Rect.{Rect}
 use Rattle.cube.specs.declared.vector.Vector.{Vector}
 use Rattle.cube.specs.declared.compute.Uv.{Uv}
 use Rattle.walk.specs.Walk.{segments}
 use Rattle.walk.specs.Refuse.{walkNumber}
-use Rattle.walk.specs.Answers.{walkAnswer, bufferAfter}
+use Rattle.walk.specs.Answers.{walkAnswer}
+use Rattle.walk.specs.Answers as Walk
 use Rattle.walk.specs.declared.compute.WalkAnswer.{WalkAnswer}
-use Rattle.answers.specs.Number.{numberText}
-use Rattle.answers.specs.Request.{uvAt, vectorAt, numberAt}
-use Rattle.answers.specs.Walked.{twoDigits, bytesFrom, spacedBytes, walkedLine, walkLineOn, lentLength, walkLine}
+use Rattle.trace.specs.Answers.{answerOf, bufferAfter}
+use Rattle.trace.specs.declared.TraceAnswer.{TraceAnswer}
+use Rattle.answers.specs.Number.{numberText, groupsFrom}
+use Rattle.answers.specs.Request.{wordUpTo, rectAt, uvAt, vectorAt, numberAt}
+use Rattle.answers.specs.Lent.{lent, twoDigits, bytesFrom, spacedBytes, shownLine}
+use Rattle.answers.specs.Walked.{walkedLine, walkLineOn, walkLine}
+use Rattle.answers.specs.Traced.{tracedLine, floatsOf, traceLineOn, traceLine}
+use Rattle.answers.proofs.Run.{length-groups}
 
 length-bytes : (bs : List ℕ) (i k : ℕ) → length (bytesFrom bs i k) ≡ 2 * k
 unfolding bytesFrom twoDigits
@@ -66,30 +73,48 @@ spaced-some bs xs ys to h f =
     let l = length-bytes bs 0 (length bs) in
     (rw (← e) (omega arith), rw (← e) f, omega arith)
 
--- the number, the count, the bytes, a line end
-pub walked-stored : (a : WalkAnswer) (bs xs ys zs us : List ℕ) (to next end : ℕ) → next ≡ to + length (numberText (a .number)) → ys ≡ stored xs to (numberText (a .number))
-    → zs ≡ placed ys next (group (a .count)) → next + 17 ≤ length ys → end ≡ next + 17 + length (spacedBytes bs) → us ≡ stored zs (next + 17) (spacedBytes bs)
-    → (end + 1 ≡ to + length (walkedLine a bs)) × (set us end 10 ≡ stored xs to (walkedLine a bs))
-unfolding walkedLine stored
-walked-stored a bs xs ys zs us to next end en ey ez h ee eu =
-    let t = numberText (a .number) in
-    let g = group (a .count) in
+-- the number, the words, the bytes, a line end
+pub shown-stored : (n k : ℕ) (ws bs xs ys zs us : List ℕ) (to next end : ℕ) → next ≡ to + length (numberText n) → ys ≡ stored xs to (numberText n)
+    → zs ≡ stored ys next (groupsFrom ws 0 k) → end ≡ next + 17 * k + length (spacedBytes bs) → us ≡ stored zs (next + 17 * k) (spacedBytes bs)
+    → (end + 1 ≡ to + length (shownLine n ws k bs)) × (set us end 10 ≡ stored xs to (shownLine n ws k bs))
+unfolding shownLine stored
+shown-stored n k ws bs xs ys zs us to next end en ey ez ee eu =
+    let t = numberText n in
+    let g = groupsFrom ws 0 k in
     let b = spacedBytes bs in
-    let p : stored us end (10 ∷ []) ≡ stored zs (next + 17) (b ++ (10 ∷ [])) = rw (eu, ee) (stored-join zs (next + 17) b (10 ∷ [])) in
-    let q : stored zs (next + 17) (b ++ (10 ∷ [])) ≡ stored ys next (g ++ (b ++ (10 ∷ []))) = placed-then ys zs next (next + 17) 17 g _ (length-group (a .count)) ez h refl in
+    let l : next + 17 * k ≡ next + length g = omega (arith, length-groups ws 0 k) in
+    let p : stored us end (10 ∷ []) ≡ stored zs (next + 17 * k) (b ++ (10 ∷ [])) = rw (eu, ee) (stored-join zs (next + 17 * k) b (10 ∷ [])) in
+    let q : stored zs (next + 17 * k) (b ++ (10 ∷ [])) ≡ stored ys next (g ++ (b ++ (10 ∷ []))) = rw (ez, l) (stored-join ys next g _) in
     let r : stored ys next (g ++ (b ++ (10 ∷ []))) ≡ stored xs to (t ++ (g ++ (b ++ (10 ∷ [])))) = rw (ey, en) (stored-join xs to t _) in
-    (simp length-append (omega (arith, length-group (a .count))), p ∙ q ∙ r)
+    (simp length-append (omega (arith, length-groups ws 0 k)), p ∙ q ∙ r)
 
 -- ---- the same line, by another name
-pub same-line : (l m xs ys : List ℕ) (to r : ℕ) → l ≡ m → (r ≡ to + length l) × (ys ≡ stored xs to l) × (r ≤ to + 822)
-    → (r ≡ to + length m) × (ys ≡ stored xs to m) × (r ≤ to + 822)
-same-line l m xs ys to r e h = (rw (← e) (h .0), rw (← e) (h .1), h .2)
+pub same-line : (l m xs ys : List ℕ) (to r k : ℕ) → l ≡ m → (r ≡ to + length l) × (ys ≡ stored xs to l) × (r ≤ to + k)
+    → (r ≡ to + length m) × (ys ≡ stored xs to m) × (r ≤ to + k)
+same-line l m xs ys to r k e h = (rw (← e) (h .0), rw (← e) (h .1), h .2)
+
+pub walked-line : (a : WalkAnswer) (bs : List ℕ) → shownLine (a .number) (a .count ∷ 0 ∷ 0 ∷ 0 ∷ 0 ∷ 0 ∷ 0 ∷ 0 ∷ []) 1 bs ≡ walkedLine a bs
+unfolding walkedLine shownLine groupsFrom
+walked-line a bs = refl
+
+pub traced-line : (a : TraceAnswer) (bs : List ℕ) → shownLine (a .number) (a .kept ∷ a .missed ∷ a .refused ∷ a .edges ∷ 0 ∷ 0 ∷ 0 ∷ 0 ∷ []) 4 bs ≡ tracedLine a bs
+unfolding tracedLine shownLine groupsFrom
+traced-line a bs = refl
 
 pub walk-line : (xs s bs : List ℕ) (w : WalkAnswer) (f t : ℕ) (a b : Uv) (p : Vector) → f ≡ numberAt s 1 → a ≡ uvAt s 2 → t ≡ numberAt s 4 → b ≡ uvAt s 5 → p ≡ vectorAt s 7
-    → w ≡ walkAnswer (walkNumber (length xs) f a t b p) (length (segments 8 p f a t b)) → bs ≡ bufferAfter xs f a t b p → walkedLine w bs ≡ walkLineOn xs s
+    → w ≡ walkAnswer (walkNumber (length xs) f a t b p) (length (segments 8 p f a t b)) → bs ≡ Walk.bufferAfter xs f a t b p → walkedLine w bs ≡ walkLineOn xs s
 unfolding walkLineOn
 walk-line xs s bs w f t a b p ef ea et eb ep ew es = rw (ew, es, ef, ea, et, eb, ep)
 
-pub walk-whole : (s : List ℕ) (n : ℕ) → n ≡ lentLength s → walkLineOn (take n (replicate 400 165)) s ≡ walkLine s
+pub walk-whole : (s : List ℕ) (n : ℕ) → n ≡ wordUpTo s 10 400 → walkLineOn (lent n) s ≡ walkLine s
 unfolding walkLine
 walk-whole s n e = rw e
+
+pub trace-line : (xs s bs : List ℕ) (t : TraceAnswer) (n : ℕ) (fs : List Float) (w : Rect) → fs ≡ floatsOf s → n ≡ wordUpTo s 1 16 → w ≡ rectAt s 3
+    → t ≡ answerOf (take n fs) w (length xs) → bs ≡ bufferAfter xs (take n fs) w → tracedLine t bs ≡ traceLineOn xs s
+unfolding traceLineOn
+trace-line xs s bs t n fs w ef en ew et eb = rw (et, eb, ef, en, ew)
+
+pub trace-whole : (s : List ℕ) (n : ℕ) → n ≡ wordUpTo s 2 400 → traceLineOn (lent n) s ≡ traceLine s
+unfolding traceLine
+trace-whole s n e = rw e

@@ -3,6 +3,8 @@ pub mod Request
 pub mod Reply
 pub mod Table
 pub mod Number
+pub mod Lent
 pub mod Walked
+pub mod Traced
 pub mod Line
 pub mod Promises

@@ -44,6 +44,10 @@ uvAt s k = uv (floatAt s k) (floatAt s (k + 1))
 unfoldable pub vectorAt : List ℕ → ℕ → Vector
 vectorAt s k = vec (floatAt s k) (floatAt s (k + 1)) (floatAt s (k + 2))
 
+-- the word, or the most where it is larger
+unfoldable pub wordUpTo : List ℕ → ℕ → ℕ → ℕ
+wordUpTo s k most = when leb (wordOf s k) most then wordOf s k else most
+
 -- a face, axis or direction: 255, above every limit, for a word above it
 unfoldable pub numberAt : List ℕ → ℕ → ℕ
 numberAt s k = when leb (wordOf s k) 255 then wordOf s k else 255

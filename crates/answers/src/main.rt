@@ -3,6 +3,7 @@ mod axes;
 mod cuts;
 mod faces;
 mod intervals;
+mod lent;
 mod lines;
 mod number;
 mod pairs;
@@ -12,6 +13,7 @@ mod reply;
 mod request;
 mod table;
 mod text;
+mod traced;
 mod walked;
 
 use libc::STDIN_FILENO;
@@ -21,7 +23,7 @@ use libc::STDOUT_FILENO;
 fn answer_block() -> bool {
     let mut requests = [0u8; 65472];
     let n = io::read_full(STDIN_FILENO, &mut requests);
-    let mut text = [0u8; 280304];
+    let mut text = [0u8; 297695];
     let k = text::put_text(&requests[..n], &mut text);
     if !io::write_all(STDOUT_FILENO, &text[..k]) {
         return false;

@@ -1,9 +1,9 @@
-// The number of a line.
+// The number of a line, and its words.
 ghost use mathlib.Core.Path.{_≡_};
-ghost use Prim.Native.Nat.{_+_, _≤_};
+ghost use Prim.Native.Nat.{_+_, _*_, _≤_};
 ghost use lib.ListN.{length};
 ghost use Rattle.buffer.specs.Bytes.{stored};
-ghost use Rattle.answers.specs.Number.{numberText};
+ghost use Rattle.answers.specs.Number.{numberText, groupsFrom};
 
 // A number; the place after it.
 pub(crate) fn put_number(out: &mut [u8], to: usize, n: u8) -> usize
@@ -14,8 +14,25 @@ pub(crate) fn put_number(out: &mut [u8], to: usize, n: u8) -> usize
         out[to] = b'0' + n;
         return to + 1;
     }
+    if n <= 14 {
+        out[to] = b'1';
+        out[to + 1] = b'0' - 10 + n;
+        return to + 2;
+    }
     out[to] = b'2';
     out[to + 1] = b'5';
     out[to + 2] = b'5';
     to + 3
+}
+
+// The groups of the first n words.
+pub(crate) fn put_groups(out: &mut [u8], to: usize, words: [u64; 8], n: usize)
+    requires { ⌜ (n ≤ 8) × (to + 17 * n ≤ length (now out)) ⌝ }
+    ensures { λ _. ⌜ now (out .exit) ≡ stored (now (out .entry)) to (groupsFrom words 0 n) ⌝ }
+{
+    let mut i: usize = 0;
+    while i < n {
+        buffer::put_group(out, to + 17 * i, words[i]);
+        i += 1;
+    }
 }

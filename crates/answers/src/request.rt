@@ -1,7 +1,7 @@
 // The arguments of a request, by the place of their first word: 0 is the operation.
 ghost use mathlib.Core.Path.{_≡_};
-ghost use Prim.Native.Nat.{_+_, _<_};
-ghost use Rattle.answers.specs.Request.{wordOf, floatAt, pointAt, intervalAt, rectAt, uvAt, vectorAt, numberAt, yesAt, axisAt};
+ghost use Prim.Native.Nat.{_+_, _≤_, _<_};
+ghost use Rattle.answers.specs.Request.{wordOf, wordUpTo, floatAt, pointAt, intervalAt, rectAt, uvAt, vectorAt, numberAt, yesAt, axisAt};
 use cube::Vector;
 use cube::compute::Uv;
 use line::Axis;
@@ -75,6 +75,18 @@ pub(crate) fn vector_at(s: &[u8], k: usize) -> Vector
         y: float_at(s, k + 1),
         z: float_at(s, k + 2),
     }
+}
+
+// The word, or the most where it is larger.
+pub(crate) fn word_up_to(s: &[u8], k: usize, most: u64) -> usize
+    requires { ⌜ k < 24 ⌝ }
+    ensures { λ r. ⌜ (r ≡ wordUpTo (now (s .entry)) k most) × (r ≤ most) ⌝ }
+{
+    let w = word(s, k);
+    if w <= most {
+        return w as usize;
+    }
+    most as usize
 }
 
 // A face, axis or direction: 255, above every limit, for a word above it.

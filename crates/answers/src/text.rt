@@ -1,18 +1,19 @@
 // The lines of requests.
 ghost use mathlib.Core.Path.{_≡_};
-ghost use Prim.Native.Nat.{_+_, _*_, _≤_};
+ghost use Prim.Native.Nat.{_+_, _≤_};
 ghost use lib.ListN.{length};
 ghost use Rattle.buffer.specs.Bytes.{stored};
 ghost use Rattle.buffer.specs.Text.{written, countWritten};
-ghost use Rattle.answers.specs.Line.{groupsFrom, atMostEight, replyLine, lineOf, textOf, room};
+ghost use Rattle.answers.specs.Line.{atMostEight, replyLine, lineOf, textOf, room};
 use crate::number;
 use crate::reply::Reply;
 use crate::request;
 use crate::table;
+use crate::traced;
 use crate::walked;
 
 // The text of the requests in s: a line for each, and one more for a torn end. Gives its length, or 0
-// with out as it was where out has no room: 822 bytes for each request, and 2.
+// with out as it was where out has no room: 873 bytes for each request, and 2.
 pub fn put_text(s: &[u8], out: &mut [u8]) -> usize
     ensures count { λ r. ⌜ r ≡ countWritten (room (now (s .entry))) (textOf (now (s .entry))) (now (out .entry)) ⌝ }
     ensures bytes { λ _. ⌜ now (out .exit) ≡ written (room (now (s .entry))) (textOf (now (s .entry))) (now (out .entry)) ⌝ }
@@ -22,7 +23,7 @@ pub fn put_text(s: &[u8], out: &mut [u8]) -> usize
     if out.len() < 2 {
         return 0;
     }
-    if (out.len() - 2) / 822 < n {
+    if (out.len() - 2) / 873 < n {
         return 0;
     }
     let mut i: usize = 0;
@@ -41,11 +42,15 @@ pub fn put_text(s: &[u8], out: &mut [u8]) -> usize
 
 // The line of one request; the place after it.
 fn put_line(out: &mut [u8], to: usize, s: &[u8]) -> usize
-    requires { ⌜ to + 822 ≤ length (now out) ⌝ }
-    ensures { λ r. ⌜ (r ≡ to + length (lineOf (now (s .entry)))) × (now (out .exit) ≡ stored (now (out .entry)) to (lineOf (now (s .entry)))) × (r ≤ to + 822) ⌝ }
+    requires { ⌜ to + 873 ≤ length (now out) ⌝ }
+    ensures { λ r. ⌜ (r ≡ to + length (lineOf (now (s .entry)))) × (now (out .exit) ≡ stored (now (out .entry)) to (lineOf (now (s .entry)))) × (r ≤ to + 873) ⌝ }
 {
-    if request::word(s, 0) == 60 {
+    let op = request::word(s, 0);
+    if op == 60 {
         return walked::put_walk(out, to, s);
+    }
+    if op == 61 {
+        return traced::put_trace(out, to, s);
     }
     put_reply(out, to, table::reply_of(s))
 }
@@ -58,7 +63,7 @@ fn put_reply(out: &mut [u8], to: usize, r: Reply) -> usize
     let words = r.words;
     let count = at_most_eight(r.count);
     let next = number::put_number(out, to, r.number);
-    put_groups(out, next, words, count);
+    number::put_groups(out, next, words, count);
     out[next + 17 * count] = b'\n';
     next + 17 * count + 1
 }
@@ -70,16 +75,4 @@ fn at_most_eight(n: usize) -> usize
         return n;
     }
     8
-}
-
-// The groups of the first n words.
-fn put_groups(out: &mut [u8], to: usize, words: [u64; 8], n: usize)
-    requires { ⌜ (n ≤ 8) × (to + 17 * n ≤ length (now out)) ⌝ }
-    ensures { λ _. ⌜ now (out .exit) ≡ stored (now (out .entry)) to (groupsFrom words 0 n) ⌝ }
-{
-    let mut i: usize = 0;
-    while i < n {
-        buffer::put_group(out, to + 17 * i, words[i]);
-        i += 1;
-    }
 }

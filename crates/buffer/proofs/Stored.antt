@@ -7,7 +7,7 @@ use mathlib.Core.List.{List, [], _∷_, _++_}
 use lib.ListN.{length, set, length-set}
 use lib.Dec.{leb}
 use Rattle.float.proofs.Choice.{cases, when-le, when-gt}
-use Rattle.buffer.specs.Bytes.{bytesOf, stored, placed}
+use Rattle.buffer.specs.Bytes.{bytesOf, stored, placed, followedBy}
 use Rattle.buffer.specs.Digits.{digitOf, hex, group}
 
 pub length-stored : (xs : List ℕ) (p : ℕ) (bs : List ℕ) → length (stored xs p bs) ≡ length xs
@@ -22,6 +22,18 @@ stored-join xs p [] bs = rw add-zero
 stored-join xs p (a ∷ cs) bs =
     let e : p + suc (length cs) ≡ p + 1 + length cs = omega arith in
     rw e (stored-join (set xs p a) (p + 1) cs bs)
+
+-- from the first byte on
+stored-ahead : (x : ℕ) (xs : List ℕ) (p : ℕ) (bs : List ℕ) → stored (x ∷ xs) (suc p) bs ≡ x ∷ stored xs p bs
+unfolding stored
+stored-ahead x xs p [] = refl
+stored-ahead x xs p (b ∷ bs) = let e : suc p + 1 ≡ suc (p + 1) = omega arith in rw e (stored-ahead x (set xs p b) (p + 1) bs)
+
+pub stored-front : (xs bs : List ℕ) → length bs ≤ length xs → stored xs 0 bs ≡ followedBy bs xs
+unfolding stored
+stored-front xs [] h = refl
+stored-front [] (b ∷ bs) h = absurd (omega arith)
+stored-front (x ∷ xs) (b ∷ bs) h = stored-ahead b xs 0 bs ∙ ap (λ (l : List ℕ). b ∷ l) (stored-front xs bs (omega arith))
 
 module _ (xs : List ℕ) (p : ℕ) (bs : List ℕ) where
   pub placed-fits : p + length bs ≤ length xs → stored xs p bs ≡ placed xs p bs

@@ -1,6 +1,6 @@
 -- Little-endian words in bytes, and what a run of stores leaves in a buffer.
 use Prim.Native.Nat.{ℕ, zero, suc, _+_, _*_, _/_, _%_}
-use mathlib.Core.List.{List, [], _∷_}
+use mathlib.Core.List.{List, [], _∷_, _++_}
 use lib.Dec.{leb}
 use lib.ListN.{length, take, drop, set}
 use Rattle.float.specs.Choice.{when_then_else_}
@@ -27,3 +27,7 @@ stored xs p (b ∷ bs) = stored (set xs p b) (p + 1) bs
 -- the same where all of bs fits, else xs as it was
 unfoldable pub placed : List ℕ → ℕ → List ℕ → List ℕ
 placed xs p bs = when leb (p + length bs) (length xs) then stored xs p bs else xs
+
+-- the bytes bs, then those of xs after them
+abbrev pub followedBy : List ℕ → List ℕ → List ℕ
+followedBy bs xs = bs ++ drop (length bs) xs

@@ -18,11 +18,11 @@ use Rattle.clip.specs.Promises.{Fine}
 use Rattle.clip.proofs.Promises.{Good, good, promises}
 
 -- ---- tests joined
-and-true : (p q : Bool) → (p && q) ≡ true → (p ≡ true) × (q ≡ true)
+pub and-true : (p q : Bool) → (p && q) ≡ true → (p ≡ true) × (q ≡ true)
 and-true true q e = (refl, e)
 and-true false q e = absurd (false≢true e)
 
-or-true : {A : Type 0} (p q : Bool) → (p || q) ≡ true → (p ≡ true → A) → (q ≡ true → A) → A
+pub or-true : {A : Type 0} (p q : Bool) → (p || q) ≡ true → (p ≡ true → A) → (q ≡ true → A) → A
 or-true true q e f g = f refl
 or-true false q e f g = g e
 

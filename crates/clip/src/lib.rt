@@ -127,7 +127,7 @@ pub fn interpolate(x: f64, a: f64, b: f64, a1: f64, b1: f64) -> Real
 
 // ---- a cut as an answer
 
-fn edge_answer(a: Point, b: Point, cut: BoxCut) -> Clipped
+pub fn edge_answer(a: Point, b: Point, cut: BoxCut) -> Clipped
     ensures { λ r. ⌜ r ≡ edgeAnswer a b cut ⌝ }
 {
     match cut {
@@ -185,7 +185,7 @@ impl AxesAnswer {
 
 impl Segment {
     // The edge as it is, but for a coordinate of b that compares equal to a's: a's stands there.
-    fn whole(a: Point, b: Point) -> Self
+    pub fn whole(a: Point, b: Point) -> Self
         ensures { λ s. ⌜ s ≡ whole a b ⌝ }
     {
         Segment {

@@ -95,7 +95,13 @@ fn coordinates(x: f64, y: f64) -> bool
 fn points_fine(a: Point, b: Point) -> bool
     ensures { λ r. ⌜ r ≡ (pointFine a and pointFine b) ⌝ }
 {
-    both(coordinates(a.x, a.y), coordinates(b.x, b.y))
+    both(point_fine(a), point_fine(b))
+}
+
+pub fn point_fine(p: Point) -> bool
+    ensures { λ r. ⌜ r ≡ pointFine p ⌝ }
+{
+    coordinates(p.x, p.y)
 }
 
 fn bound_fine(i: Interval) -> bool
@@ -116,7 +122,7 @@ fn sides_fine(i: Interval) -> bool
     both(both(is_side(i.lo), is_side(i.hi)), i.lo <= i.hi)
 }
 
-fn window_fine(r: Rect) -> bool
+pub fn window_fine(r: Rect) -> bool
     ensures { λ a. ⌜ a ≡ windowFine r ⌝ }
 {
     both(sides_fine(r.x), sides_fine(r.y))

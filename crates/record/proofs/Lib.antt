@@ -1,2 +1,3 @@
 -- Laws of the record's bytes.
 pub mod Words
+pub mod Ahead

@@ -7,7 +7,7 @@ use lib.ListN.{length, length-append}
 use lib.Ieee.{binary64, toBits}
 use Rattle.buffer.specs.Bytes.{bytesOf, stored, placed}
 use Rattle.buffer.proofs.Stored.{placed-fits, placed-not, placed-length, placed-then, length-bytes}
-use Rattle.record.specs.Record.{headBytes, recordBytes}
+use Rattle.record.specs.Record.{headBytes, fiveWords, recordBytes}
 use Rattle.record.specs.declared.Ends.{Ends}
 
 -- the word of the head: its low byte is the first, its high half whose the record is
@@ -32,34 +32,41 @@ pub length-record : (first whose : ℕ) (s : Ends) → length (recordBytes first
 unfolding recordBytes headBytes
 length-record first whose s = simp (length-append, length-bytes)
 
-pub record-not : (xs : List ℕ) (p first whose : ℕ) (s : Ends) → length xs < p + 40 → xs ≡ placed xs p (recordBytes first whose s)
-record-not xs p first whose s h = placed-not xs p (recordBytes first whose s) (omega (arith, length-record first whose s))
+length-five : (h i j k l : ℕ) → length (fiveWords h i j k l) ≡ 40
+unfolding fiveWords
+length-five h i j k l = simp (length-append, length-bytes)
 
-pub record-is : (xs a b c d e : List ℕ) (p first whose : ℕ) (s : Ends) (h i j k l : ℕ) → p + 40 ≤ length xs
-    → a ≡ placed xs p (bytesOf 8 h) → bytesOf 8 h ≡ headBytes first whose
-    → b ≡ placed a (p + 8) (bytesOf 8 i) → i ≡ toBits binary64 (s .au)
-    → c ≡ placed b (p + 16) (bytesOf 8 j) → j ≡ toBits binary64 (s .av)
-    → d ≡ placed c (p + 24) (bytesOf 8 k) → k ≡ toBits binary64 (s .bu)
-    → e ≡ placed d (p + 32) (bytesOf 8 l) → l ≡ toBits binary64 (s .bv)
-    → e ≡ placed xs p (recordBytes first whose s)
-record-is xs a b c d e p first whose s h i j k l r ea eh eb ei ec ej ed ek ee el =
+-- ---- five words at a place where they do not all fit, and where they do
+pub words-not : (xs : List ℕ) (p h i j k l : ℕ) → length xs < p + 40 → xs ≡ placed xs p (fiveWords h i j k l)
+words-not xs p h i j k l r = placed-not xs p (fiveWords h i j k l) (omega (arith, length-five h i j k l))
+
+pub words-are : (xs a b c d e : List ℕ) (p h i j k l : ℕ) → p + 40 ≤ length xs
+    → a ≡ placed xs p (bytesOf 8 h)
+    → b ≡ placed a (p + 8) (bytesOf 8 i)
+    → c ≡ placed b (p + 16) (bytesOf 8 j)
+    → d ≡ placed c (p + 24) (bytesOf 8 k)
+    → e ≡ placed d (p + 32) (bytesOf 8 l)
+    → e ≡ placed xs p (fiveWords h i j k l)
+unfolding fiveWords
+words-are xs a b c d e p h i j k l r ea eb ec ed ee =
     let la = placed-length _ a _ _ ea in
     let lb = placed-length _ b _ _ eb in
     let lc = placed-length _ c _ _ ec in
     let ld = placed-length _ d _ _ ed in
     let w : e ≡ stored d (p + 32) (bytesOf 8 l) = ee ∙ sym (placed-fits d (p + 32) (bytesOf 8 l) (omega (arith, length-bytes 8 l))) in
-    let t : stored d (p + 32) (bytesOf 8 l) ≡ stored xs p (bytesOf 8 h ++ (bytesOf 8 i ++ (bytesOf 8 j ++ (bytesOf 8 k ++ bytesOf 8 l)))) =
+    let t : stored d (p + 32) (bytesOf 8 l) ≡ stored xs p (fiveWords h i j k l) =
     word-then c d (p + 24) (p + 32) k _ ed (omega arith) (omega arith)
     ∙ word-then b c (p + 16) (p + 24) j _ ec (omega arith) (omega arith)
     ∙ word-then a b (p + 8) (p + 16) i _ eb (omega arith) (omega arith)
     ∙ word-then xs a p (p + 8) h _ ea (omega arith) (omega arith) in
-    w ∙ t ∙ joined
+    w ∙ t ∙ placed-fits xs p (fiveWords h i j k l) (omega (arith, length-five h i j k l))
+
+-- ---- a record's five words are its bytes
+pub record-words : (xs ys : List ℕ) (p first whose : ℕ) (s : Ends) (h i j k l : ℕ) → ys ≡ placed xs p (fiveWords h i j k l)
+    → bytesOf 8 h ≡ headBytes first whose
+    → i ≡ toBits binary64 (s .au) → j ≡ toBits binary64 (s .av) → k ≡ toBits binary64 (s .bu) → l ≡ toBits binary64 (s .bv)
+    → ys ≡ placed xs p (recordBytes first whose s)
+record-words xs ys p first whose s h i j k l e eh ei ej ek el = e ∙ ap (placed xs p) same
   where
-    bytes : List ℕ
-    bytes = bytesOf 8 h ++ (bytesOf 8 i ++ (bytesOf 8 j ++ (bytesOf 8 k ++ bytesOf 8 l)))
-
-    same : bytes ≡ recordBytes first whose s
-    same = unfold recordBytes in rw (eh, ei, ej, ek, el)
-
-    joined : stored xs p bytes ≡ placed xs p (recordBytes first whose s)
-    joined = ap (stored xs p) same ∙ placed-fits xs p (recordBytes first whose s) (omega (arith, length-record first whose s))
+    same : fiveWords h i j k l ≡ recordBytes first whose s
+    same = unfold fiveWords recordBytes in rw (eh, ei, ej, ek, el)

@@ -6,4 +6,5 @@ pub mod intervals;
 pub mod lines;
 pub mod points;
 pub mod rects;
+pub mod traces;
 pub mod walks;

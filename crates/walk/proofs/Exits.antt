@@ -7,13 +7,14 @@ use lib.ListN.{length}
 use Rattle.float.proofs.Choice.{when-le, when-gt}
 use Rattle.answer.proofs.Beside.{ask-done, ask-other}
 use Rattle.buffer.specs.Bytes.{stored}
+use Rattle.buffer.proofs.Stored.{stored-front}
 use Rattle.cube.specs.declared.vector.Vector.{Vector}
 use Rattle.cube.specs.declared.compute.Uv.{Uv}
 use Rattle.walk.specs.Walk.{stopNumber, segments, countOf, recordsOf}
 use Rattle.walk.specs.Refuse.{inputRefusal, roomRefusal, walkNumber}
 use Rattle.walk.specs.Answers.{walkAnswer, bufferAfter}
 use Rattle.walk.specs.declared.compute.WalkAnswer.{WalkAnswer}
-use Rattle.walk.proofs.Records.{length-records, length-segments, stored-front}
+use Rattle.walk.proofs.Records.{length-records, length-segments}
 use Rattle.walk.proofs.Stops.{answer-done, answer-other}
 
 room-short : (count bytes : ℕ) → bytes / 40 < count → 8 ≡ roomRefusal count bytes

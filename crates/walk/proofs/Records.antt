@@ -1,23 +1,22 @@
--- Records one after the other: how long they are, one stored before the rest, and what they leave of a buffer.
+-- Records one after the other: how long they are, and one stored before the rest.
 use Prim.Native.Nat.{ℕ, zero, suc, _+_, _-_, _*_, _≤_, _<_}
 use native.Mathlib.Omega.{arith}
-use mathlib.Core.Path.{_≡_, refl, sym, ap, _∙_}
+use mathlib.Core.Path.{_≡_, refl, sym, ap}
 use mathlib.Core.List.{List, [], _∷_, _++_}
 use mathlib.Core.Bool.{Bool, true, false}
 use lib.Dec.{eqb}
-use lib.ListN.{length, set, length-append}
+use lib.ListN.{length, length-append}
 use Rattle.float.specs.Choice.{when_then_else_}
 use Rattle.float.proofs.Choice.{when-eq, when-ne}
 use Rattle.buffer.specs.Bytes.{stored, placed}
-use Rattle.buffer.proofs.Stored.{placed-length, placed-then}
 use Rattle.cube.specs.declared.vector.Vector.{Vector}
 use Rattle.cube.specs.declared.compute.Uv.{Uv}
 use Rattle.line.specs.Line.{leftAt, onward}
 use Rattle.record.specs.Record.{recordBytes}
 use Rattle.record.specs.declared.Ends.{Ends}
 use Rattle.record.proofs.Words.{length-record}
+use Rattle.record.proofs.Ahead.{Ahead, ahead}
 use Rattle.walk.specs.Walk.{movedTo, Segment, segment, segments, countOf, endsOf, segmentBytes, recordsOf}
-use Rattle.walk.specs.Answers.{followedBy}
 
 -- ---- how long
 pub length-records : (ss : List Segment) → length (recordsOf ss) ≡ length ss * 40
@@ -35,18 +34,6 @@ unfolding segments countOf
 length-segments zero p f a t b = refl
 length-segments (suc k) p f a t b = either (eqb f t) _ _ _ _ (length-segments k p (onward p f t) _ t b)
 
--- ---- stored from the first byte on
-stored-ahead : (x : ℕ) (xs : List ℕ) (p : ℕ) (bs : List ℕ) → stored (x ∷ xs) (suc p) bs ≡ x ∷ stored xs p bs
-unfolding stored
-stored-ahead x xs p [] = refl
-stored-ahead x xs p (b ∷ bs) = let e : suc p + 1 ≡ suc (p + 1) = omega arith in rw e (stored-ahead x (set xs p b) (p + 1) bs)
-
-pub stored-front : (xs bs : List ℕ) → length bs ≤ length xs → stored xs 0 bs ≡ followedBy bs xs
-unfolding stored
-stored-front xs [] h = refl
-stored-front [] (b ∷ bs) h = absurd (omega arith)
-stored-front (x ∷ xs) (b ∷ bs) h = stored-ahead b xs 0 bs ∙ ap (λ (l : List ℕ). b ∷ l) (stored-front xs bs (omega arith))
-
 -- ---- a record, then the rest
 module _ (p : Vector) (f : ℕ) (a : Uv) (t : ℕ) (b : Uv) (s : Ends) where
   records-last : (k : ℕ) → 0 < k → f ≡ t → s ≡ endsOf a b → recordsOf (segments k p f a t b) ≡ recordBytes f 0 s ++ []
@@ -61,27 +48,16 @@ module _ (p : Vector) (f : ℕ) (a : Uv) (t : ℕ) (b : Uv) (s : Ends) where
   records-onward (suc k) e c g h n ee es eg ec = let d : suc k - 1 ≡ k = omega arith in rw (es, ec, eg, ee, d) (sym (ap recordsOf (when-ne f t _ _ _ n refl)))
 
 -- ---- one record that fits at a place, then the rest at the next
-pub record Ahead (xs ys : List ℕ) (to : ℕ) (rest all : List ℕ) : Type 0 where
-  pub long : length ys ≡ length xs
-  pub room : to + 40 + length rest ≤ length ys
-  pub same : stored ys (to + 40) rest ≡ stored xs to all
-
-ahead : (xs ys : List ℕ) (to f : ℕ) (s : Ends) (rest all : List ℕ) → all ≡ recordBytes f 0 s ++ rest → to + length all ≤ length xs → ys ≡ placed xs to (recordBytes f 0 s) → Ahead xs ys to rest all
-ahead xs ys to f s rest all e r w =
-    let n : length all ≡ 40 + length rest = rw e (omega (arith, length-append (recordBytes f 0 s) rest, length-record f 0 s)) in
-    let l = placed-length xs ys to (recordBytes f 0 s) w in
-    record { long = l; room = omega arith; same = rw e (placed-then xs ys to (to + 40) 40 (recordBytes f 0 s) rest (length-record f 0 s) w (omega arith) refl) }
-
 module _ (xs ys : List ℕ) (to : ℕ) (p : Vector) (f : ℕ) (a : Uv) (t : ℕ) (b : Uv) (s : Ends) (k : ℕ) (h : 0 < k) (r : to + length (recordsOf (segments k p f a t b)) ≤ length xs) (w : ys ≡ placed xs to (recordBytes f 0 s)) where
   -- at the target it is the last
   pub last-stored : f ≡ t → s ≡ endsOf a b → ys ≡ stored xs to (recordsOf (segments k p f a t b))
   unfolding stored
-  last-stored e es = ahead xs ys to f s [] _ (records-last p f a t b s k h e es) r w .same
+  last-stored e es = ahead xs ys to f 0 s [] _ (records-last p f a t b s k h e es) r w .same
 
   -- and else the walk goes on from there
   pub goes-on : (e c : Uv) (g : ℕ) → (f ≡ t → ⊥) → e ≡ leftAt p f → s ≡ endsOf a e → g ≡ onward p f t → c ≡ movedTo f e g
       → Ahead xs ys to (recordsOf (segments (k - 1) p g c t b)) (recordsOf (segments k p f a t b))
-  goes-on e c g n ee es eg ec = ahead xs ys to f s _ _ (records-onward p f a t b s k e c g h n ee es eg ec) r w
+  goes-on e c g n ee es eg ec = ahead xs ys to f 0 s _ _ (records-onward p f a t b s k e c g h n ee es eg ec) r w
 
 pub none-left : (xs : List ℕ) (to k : ℕ) (p : Vector) (f : ℕ) (a : Uv) (t : ℕ) (b : Uv) → k ≤ 0 → xs ≡ stored xs to (recordsOf (segments k p f a t b))
 unfolding segments recordsOf stored

@@ -1,8 +1,9 @@
 -- The answer of the walk, and what is in the lent buffer after.
 use Prim.Native.Nat.{ℕ}
-use mathlib.Core.List.{List, _++_}
-use lib.ListN.{length, drop}
+use mathlib.Core.List.{List}
+use lib.ListN.{length}
 use Rattle.answer.specs.Answer.{beside}
+use Rattle.buffer.specs.Bytes.{followedBy}
 use Rattle.cube.specs.declared.vector.Vector.{Vector}
 use Rattle.cube.specs.declared.compute.Uv.{Uv}
 use Rattle.walk.specs.Walk.{segments, recordsOf}
@@ -12,10 +13,6 @@ use Rattle.walk.specs.declared.compute.WalkAnswer.{WalkAnswer}
 -- the count beside 0, or 0 beside another number
 abbrev pub walkAnswer : ℕ → ℕ → WalkAnswer
 walkAnswer n count = record { number = n; count = beside n count 0 }
-
--- the bytes bs, then those of xs after them
-abbrev pub followedBy : List ℕ → List ℕ → List ℕ
-followedBy bs xs = bs ++ drop (length bs) xs
 
 -- with 0 the records followed by the old bytes, and with any other number the old bytes
 unfoldable pub bufferAfter : List ℕ → ℕ → Uv → ℕ → Uv → Vector → List ℕ

@@ -6,12 +6,14 @@ use std::fs;
 use std::path::{Path, PathBuf};
 use umblacet::r1::interval::Interval;
 use umblacet::r2::{point::Point, rect::Rect};
-use umblacet::s2::edge_clipping::{self, FaceSegment};
+use umblacet::s2::edge_clipping;
 use umblacet::s2::stuv;
+use umblacet::trace::{cut_trace, Counts};
 use umblacet::Refusal;
 use words::{Arguments, Shown, REQUEST};
 
 const WALK: u64 = 60;
+const TRACE: u64 = 61;
 const RECORD: usize = 40;
 
 #[test]
@@ -31,7 +33,8 @@ fn every_walk_has_its_segments() {
         match edge_clipping::segments(a.take(), a.take(), a.take(), a.take(), a.take()) {
             Ok(segments) if walked.is_ok() => {
                 assert_eq!(walked, Ok(segments.len()));
-                assert!(bytes.starts_with(&segments.iter().flat_map(record).collect::<Vec<u8>>()));
+                let records = segments.iter().flat_map(|segment| record(segment.face, segment.a, segment.b));
+                assert!(bytes.starts_with(&records.collect::<Vec<u8>>()));
             }
             Ok(segments) => {
                 assert_eq!(walked, Err(Refusal::ShortBuffer));
@@ -40,6 +43,27 @@ fn every_walk_has_its_segments() {
             Err(refusal) => assert_eq!(walked, Err(refusal)),
         }
     }
+}
+
+/// What `clip_edge` answers for each edge is what the trace writes, wherever there is room for it.
+#[test]
+fn every_trace_has_its_edges() {
+    let mut edges = 0;
+    for request in list().0.iter().filter(|request| request[0] == TRACE) {
+        let (Ok(counts), bytes) = trace(&mut arguments(request)) else { continue };
+        let mut a = arguments(request);
+        let (_, _, window): (u64, u64, Rect) = (a.take(), a.take(), a.take());
+        let samples: Vec<Point> = (0..=counts.edges).map(|_| a.take()).collect();
+        for (edge, written) in samples.windows(2).zip(bytes.chunks(RECORD)) {
+            let expected = match edge_clipping::clip_edge(edge[0], edge[1], window) {
+                Ok((kept_a, kept_b)) => record(0, kept_a, kept_b),
+                Err(refusal) => record(refusal.number(), Point { x: 0.0, y: 0.0 }, Point { x: 0.0, y: 0.0 }),
+            };
+            assert_eq!(written, expected);
+            edges += 1;
+        }
+    }
+    assert!(edges > 0, "there are traces in the list");
 }
 
 /// The whole requests, and a line for each; the last line is for the torn end, and is not asked here.
@@ -72,17 +96,29 @@ fn arguments(request: &[u64; REQUEST]) -> Arguments<'_> {
 
 fn line(request: &[u64; REQUEST]) -> String {
     let mut a = arguments(request);
-    if request[0] != WALK {
-        return answered(request[0], &mut a).unwrap_or_else(|| "255".into());
+    match request[0] {
+        WALK => {
+            let (walked, bytes) = walk(&mut a);
+            lent(walked.map(|count| [count]), &bytes)
+        }
+        TRACE => {
+            let (traced, bytes) = trace(&mut a);
+            lent(traced.map(|Counts { kept, missed, refused, edges }| [kept, missed, refused, edges]), &bytes)
+        }
+        operation => answered(operation, &mut a).unwrap_or_else(|| "255".into()),
     }
-    let (walked, bytes) = walk(&mut a);
-    let (number, count) = walked.map_or_else(|refusal| (refusal.number(), 0), |count| (0, count));
-    let bytes: String = bytes.iter().map(|byte| format!("{byte:02x}")).collect();
-    format!("{number} {count:016x} {bytes}").trim_end().into()
 }
 
-/// The line of an operation other than the walk; none where it is not listed. Rust takes arguments from left to right,
-/// so each function's own signature reads the request.
+/// The number, the counts, and the buffer after the call.
+fn lent<const COUNTS: usize>(answer: Result<[usize; COUNTS], Refusal>, bytes: &[u8]) -> String {
+    let (number, counts) = answer.map_or_else(|refusal| (refusal.number(), [0; COUNTS]), |counts| (0, counts));
+    let counts: String = counts.iter().map(|count| format!(" {count:016x}")).collect();
+    let bytes: String = bytes.iter().map(|byte| format!("{byte:02x}")).collect();
+    format!("{number}{counts} {bytes}").trim_end().into()
+}
+
+/// The line of an operation that is lent no buffer; none where it is not listed. Rust takes arguments from left to
+/// right, so each function's own signature reads the request.
 fn answered(operation: u64, a: &mut Arguments) -> Option<String> {
     Some(match operation {
         1 => shown(a.take::<Point>() + a.take::<Point>()),
@@ -164,8 +200,16 @@ fn walk(a: &mut Arguments) -> (Result<usize, Refusal>, Vec<u8>) {
     (edge_clipping::walk(face, from, target, to, normal, &mut bytes), bytes)
 }
 
-fn record(segment: &FaceSegment) -> Vec<u8> {
-    let floats = [segment.a.x, segment.a.y, segment.b.x, segment.b.y];
+/// The trace's answer, and its buffer after it.
+fn trace(a: &mut Arguments) -> (Result<Counts, Refusal>, Vec<u8>) {
+    let (floats, length, window): (u64, u64, Rect) = (a.take(), a.take(), a.take());
+    let samples: Vec<f64> = (0..floats.min(16)).map(|_| a.take()).collect();
+    let mut bytes = vec![0xa5; length.min(400) as usize];
+    (cut_trace(&samples, window, &mut bytes), bytes)
+}
+
+fn record(first: u8, a: Point, b: Point) -> Vec<u8> {
+    let floats = [a.x, a.y, b.x, b.y];
     let floats = floats.iter().flat_map(|float| float.to_le_bytes());
-    [segment.face, 0, 0, 0, 0, 0, 0, 0].into_iter().chain(floats).collect()
+    [first, 0, 0, 0, 0, 0, 0, 0].into_iter().chain(floats).collect()
 }

@@ -1,6 +1,6 @@
--- `put_line` stores the line of a request: 60 has its own.
+-- `put_line` stores the line of a request: 60 and 61 have their own.
 use native.Mathlib.Omega.{arith}
-use Rattle.answers.proofs.Run.{line-walk, line-reply}
+use Rattle.answers.proofs.Run.{line-walk, line-trace, line-reply}
 use Rattle.answers.proofs.Spaced.{same-line}
 use borrow.Author.Needs.{needs}
 use Rattle.answers.proofs.text.put_line.Statement.{statement}
@@ -16,7 +16,18 @@ same-length : tie.Need-same-length
 same-length c = search needs
 
 returns : tie.Need-returns
-returns c = same-line _ _ _ _ _ _ (line-walk _ _ (c .before .before .before .before .before .word .ensures) (c .before .before .before .before .if1 .taken)) (c .before .before .put-walk .ensures)
+returns c =
+    let r = c .before .before .put-walk .ensures in
+    same-line _ _ _ _ _ _ 873 (line-walk _ _ (c .before .before .before .before .before .word .ensures) (c .before .before .before .before .if1 .taken)) (r .0, r .1, omega (arith, r .2))
+
+put-trace-requires : tie.Need-put-trace-requires
+put-trace-requires c κs = omega arith
+
+same-length-2 : tie.Need-same-length-2
+same-length-2 c = search needs
+
+returns-2 : tie.Need-returns-2
+returns-2 c = same-line _ _ _ _ _ _ 873 (line-trace _ _ (c .before .before .before .before .before .before .word .ensures) (c .before .before .before .before .before .if1 .left) (c .before .before .before .before .if2 .taken)) (c .before .before .put-trace .ensures)
 
 reply-of-requires : tie.Need-reply-of-requires
 reply-of-requires c κs = search needs
@@ -24,13 +35,13 @@ reply-of-requires c κs = search needs
 put-reply-requires : tie.Need-put-reply-requires
 put-reply-requires c κs = omega arith
 
-same-length-2 : tie.Need-same-length-2
-same-length-2 c = search needs
+same-length-3 : tie.Need-same-length-3
+same-length-3 c = search needs
 
-returns-2 : tie.Need-returns-2
-returns-2 c =
+returns-3 : tie.Need-returns-3
+returns-3 c =
     let r = c .before .before .put-reply .ensures in
-    same-line _ _ _ _ _ _ (line-reply _ _ _ (c .before .before .before .before .before .before .word .ensures) (c .before .before .before .before .before .if1 .left) (c .before .before .before .reply-of .ensures)) (r .0, r .1, omega (arith, r .2))
+    same-line _ _ _ _ _ _ 873 (line-reply _ _ _ (c .before .before .before .before .before .before .before .word .ensures) (c .before .before .before .before .before .before .if1 .left) (c .before .before .before .before .before .if2 .left) (c .before .before .before .reply-of .ensures)) (r .0, r .1, omega (arith, r .2))
 
 pub put-line-spec : {M : Type 1} → statement M
 put-line-spec =
@@ -40,7 +51,10 @@ put-line-spec =
     put-walk-requires
     same-length
     returns
+    put-trace-requires
+    same-length-2
+    returns-2
     reply-of-requires
     put-reply-requires
-    same-length-2
-    returns-2)
+    same-length-3
+    returns-3)

@@ -6,8 +6,8 @@ use borrow.Author.Needs.{needs}
 use Rattle.answers.proofs.walked.put_walk.Statement.{statement}
 use Rattle.answers.proofs.walked.put_walk.Tie as tie
 
-lent-length-requires : tie.Need-lent-length-requires
-lent-length-requires c κs = search needs
+word-up-to-requires : tie.Need-word-up-to-requires
+word-up-to-requires c κs = search needs
 
 array-borrow-prefix-lent : tie.Need-array-borrow-prefix-lent
 array-borrow-prefix-lent c = search needs
@@ -22,13 +22,13 @@ same-length : tie.Need-same-length
 same-length c = search needs
 
 returns : tie.Need-returns
-returns c = same-line _ _ _ _ _ _ (walk-whole _ _ (c .before .before .before .before .before .before .lent-length .ensures .0)) (c .before .before .before .put-walk-on .ensures)
+returns c = same-line _ _ _ _ _ _ 822 (walk-whole _ _ (c .before .before .before .before .before .before .word-up-to .ensures .0)) (c .before .before .before .put-walk-on .ensures)
 
 pub put-walk-spec : {M : Type 1} → statement M
 put-walk-spec =
     tie.close
     (tie.spec
-    lent-length-requires
+    word-up-to-requires
     array-borrow-prefix-lent
     slice-aggregate-put-walk-on
     put-walk-on-requires

@@ -36,7 +36,7 @@ returns : tie.Need-returns
 returns c =
     let w = c .before .before .before .before .before .before .before .walk .ensures in
     let e = walk-line _ _ _ _ _ _ _ _ _ (c .before .before .before .before .before .before .before .before .before .before .before .before .before .number-at .ensures) (c .before .before .before .before .before .before .before .before .before .before .before .before .uv-at .ensures) (c .before .before .before .before .before .before .before .before .before .before .before .number-at2 .ensures) (c .before .before .before .before .before .before .before .before .before .before .uv-at2 .ensures) (c .before .before .before .before .before .before .before .before .before .vector-at .ensures) (w .0) (w .1) in
-    same-line _ _ _ _ _ _ e (c .before .before .put-walked .ensures)
+    same-line _ _ _ _ _ _ 822 e (c .before .before .put-walked .ensures)
 
 pub put-walk-on-spec : {M : Type 1} → statement M
 put-walk-on-spec =

@@ -3,11 +3,11 @@ use borrow.Author.Needs.{needs}
 use Rattle.clip.proofs.refuse.points_fine.Statement.{statement}
 use Rattle.clip.proofs.refuse.points_fine.Tie as tie
 
-coordinates-requires : tie.Need-coordinates-requires
-coordinates-requires c κs = search needs
+point-fine-requires : tie.Need-point-fine-requires
+point-fine-requires c κs = search needs
 
-coordinates-requires-2 : tie.Need-coordinates-requires-2
-coordinates-requires-2 c κs = search needs
+point-fine-requires-2 : tie.Need-point-fine-requires-2
+point-fine-requires-2 c κs = search needs
 
 both-requires : tie.Need-both-requires
 both-requires c κs = search needs
@@ -17,4 +17,4 @@ returns c = cc
 
 pub points-fine-spec : {M : Type 1} → statement M
 points-fine-spec =
-    tie.close (tie.spec coordinates-requires coordinates-requires-2 both-requires returns)
+    tie.close (tie.spec point-fine-requires point-fine-requires-2 both-requires returns)

@@ -1,0 +1,78 @@
+// Operation 61: the line of a trace on a lent buffer.
+ghost use mathlib.Core.Path.{_≡_};
+ghost use Prim.Native.Nat.{_+_, _≤_};
+ghost use lib.ListN.{length};
+ghost use Rattle.buffer.specs.Bytes.{stored};
+ghost use Rattle.answers.specs.Traced.{tracedLine, floatsOf, traceLineOn, traceLine};
+use crate::lent;
+use crate::request;
+use trace::TraceAnswer;
+
+// The line of a trace on a buffer of the length asked, every byte a5; the place after it.
+pub(crate) fn put_trace(out: &mut [u8], to: usize, s: &[u8]) -> usize
+    requires { ⌜ to + 873 ≤ length (now out) ⌝ }
+    ensures { λ r. ⌜ (r ≡ to + length (traceLine (now (s .entry)))) × (now (out .exit) ≡ stored (now (out .entry)) to (traceLine (now (s .entry)))) × (r ≤ to + 873) ⌝ }
+{
+    let mut lent = [0xa5u8; 400];
+    let n = request::word_up_to(s, 2, 400);
+    put_trace_on(out, to, s, &mut lent[..n])
+}
+
+fn put_trace_on(out: &mut [u8], to: usize, s: &[u8], lent: &mut [u8]) -> usize
+    requires { ⌜ (to + 873 ≤ length (now out)) × (length (now lent) ≤ 400) ⌝ }
+    ensures { λ r. ⌜ (r ≡ to + length (traceLineOn (now (lent .entry)) (now (s .entry)))) × (now (out .exit) ≡ stored (now (out .entry)) to (traceLineOn (now (lent .entry)) (now (s .entry)))) × (r ≤ to + 873) ⌝ }
+{
+    let floats = floats_of(s);
+    let n = request::word_up_to(s, 1, 16);
+    let window = request::rect_at(s, 3);
+    let answer = trace::cut_trace(&floats[..n], window, lent);
+    put_traced(out, to, answer, lent)
+}
+
+// The words that may be floats.
+fn floats_of(s: &[u8]) -> [f64; 16]
+    ensures { λ r. ⌜ r ≡ floatsOf (now (s .entry)) ⌝ }
+{
+    [
+        request::float_at(s, 7),
+        request::float_at(s, 8),
+        request::float_at(s, 9),
+        request::float_at(s, 10),
+        request::float_at(s, 11),
+        request::float_at(s, 12),
+        request::float_at(s, 13),
+        request::float_at(s, 14),
+        request::float_at(s, 15),
+        request::float_at(s, 16),
+        request::float_at(s, 17),
+        request::float_at(s, 18),
+        request::float_at(s, 19),
+        request::float_at(s, 20),
+        request::float_at(s, 21),
+        request::float_at(s, 22),
+    ]
+}
+
+// The number, the counts and the bytes; the place after them.
+fn put_traced(out: &mut [u8], to: usize, a: TraceAnswer, bytes: &[u8]) -> usize
+    requires { ⌜ (to + 873 ≤ length (now out)) × (length (now bytes) ≤ 400) ⌝ }
+    ensures { λ r. ⌜ (r ≡ to + length (tracedLine a (now (bytes .entry)))) × (now (out .exit) ≡ stored (now (out .entry)) to (tracedLine a (now (bytes .entry)))) × (r ≤ to + 873) ⌝ }
+{
+    lent::put_shown(
+        out,
+        to,
+        a.number,
+        [
+            a.kept as u64,
+            a.missed as u64,
+            a.refused as u64,
+            a.edges as u64,
+            0,
+            0,
+            0,
+            0,
+        ],
+        4,
+        bytes,
+    )
+}

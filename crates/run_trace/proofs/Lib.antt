@@ -1,0 +1,5 @@
+-- Laws that the proofs of this crate cite.
+pub mod Reading
+pub mod Cutting
+pub mod Pieces
+pub mod Promises

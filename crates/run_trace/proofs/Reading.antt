@@ -1,0 +1,51 @@
+-- The loop that reads floats: those still to come, put after those that are there, give what all of them would have given.
+use Prim.Native.Nat.{ℕ, zero, suc, _+_, _-_, _*_, _≤_, _<_}
+use mathlib.Core.Path.{_≡_, refl, sym, _∙_}
+use mathlib.Core.List.{List}
+use native.Mathlib.Omega.{arith}
+use lib.Dec.{leb}
+use lib.ListN.{length, set, length-set}
+use lib.Ieee.{Float}
+use Rattle.float.specs.Choice.{when_then_else_}
+use Rattle.float.proofs.Choice.{when-le, when-gt}
+use Rattle.run_trace.specs.Samples.{floatAt, floatsIn, floatsFrom, floatsInto}
+
+pub record Reading (s : List ℕ) (out₀ out : List Float) (n i : ℕ) : Type 0 where
+  pub low : i ≤ n
+  pub all : n ≡ floatsIn s
+  pub long : length out ≡ length out₀
+  pub room : 2 + n ≤ length out₀
+  pub same : floatsInto out (i + 2) (floatsFrom s i (n - i)) ≡ floatsInto out₀ 2 (floatsFrom s 0 n)
+
+module _ (s : List ℕ) (out₀ out : List Float) (n i : ℕ) where
+  pub goes-on : (v : Float) → v ≡ floatAt s (8 * i) → i < n → Reading s out₀ out n i → Reading s out₀ (set out (i + 2) v) n (i + 1)
+  unfolding floatsFrom floatsInto
+  goes-on v e h r =
+      let k : n - i ≡ suc (n - (i + 1)) = omega arith in
+      let p : i + 2 + 1 ≡ i + 1 + 2 = omega arith in
+      let m = r .same in
+      record {
+        low = omega arith;
+        all = r .all;
+        long = length-set out (i + 2) v ∙ r .long;
+        room = r .room;
+        same = rw (e, ← p) (rw k at m);
+      }
+
+  pub ends : Reading s out₀ out n i → n ≤ i → out ≡ (when leb (2 + floatsIn s) (length out₀) then floatsInto out₀ 2 (floatsFrom s 0 (floatsIn s)) else out₀)
+  unfolding floatsFrom floatsInto
+  ends r h =
+      let k : n - i ≡ 0 = omega arith in
+      let m = r .same in
+      let e = r .all in
+      when-le (2 + floatsIn s) (length out₀) _ _ _ (omega (arith, r .room, e)) (rw (← e) (rw k at m))
+
+module _ (s : List ℕ) (out₀ : List Float) (n : ℕ) (e : n ≡ floatsIn s) where
+  pub starts : 2 + n ≤ length out₀ → Reading s out₀ out₀ n 0
+  starts h = record { low = omega arith; all = e; long = refl; room = h; same = let k : n - 0 ≡ n = omega arith in rw k refl }
+
+  pub counted : 2 + n ≤ length out₀ → n + 2 ≡ (when leb (2 + floatsIn s) (length out₀) then 2 + floatsIn s else 0)
+  counted h = when-le (2 + floatsIn s) (length out₀) _ _ _ (omega arith) (omega arith)
+
+  pub no-room : {A : Type 0} (x y : A) → length out₀ < 2 + n → y ≡ (when leb (2 + floatsIn s) (length out₀) then x else y)
+  no-room x y h = when-gt (2 + floatsIn s) (length out₀) _ _ _ (omega arith) refl

@@ -1,0 +1,3 @@
+-- What the program reads: a window, and then samples.
+pub mod Samples
+pub mod Promises

@@ -1,0 +1,128 @@
+-- The record of an edge is that of its own two samples, and 2 exactly when one of them is dead.
+use Prim.Native.Nat.{ℕ, zero, suc, _+_, _-_, _*_, _≤_, _<_}
+use native.Mathlib.Omega.{arith}
+use native.Mathlib.Numerals.{add-one}
+use mathlib.Core.Path.{_≡_, refl, sym, ap, _∙_}
+use mathlib.Core.Logic.{_↔_}
+use mathlib.Core.Bool.{Bool, true, false}
+use mathlib.Core.List.{List, [], _∷_, _++_, append-nil}
+use lib.Dec.{ltb}
+use lib.ListN.{length, take, drop, getD, set, length-set, drop-of-length-le}
+use lib.Seq.{take-at, take-nil, drop-append-add, getD-set-other}
+use Rattle.float.specs.Choice.{when_then_else_, _and_}
+use borrow.Author.Tests.{ltb-true, ltb-false}
+use Rattle.plane.specs.Point.{origin}
+use Rattle.plane.specs.declared.point.Point.{Point}
+use Rattle.plane.specs.declared.rect.Rect.{Rect}
+use Rattle.record.specs.Record.{headBytes, recordBytes}
+use Rattle.record.proofs.Words.{length-record}
+use Rattle.clip.specs.Refuse.{pointFine}
+use Rattle.clip.specs.Answers.{clipped, numberOf, pointsOf}
+use Rattle.clip.specs.declared.Segment.{Segment}
+use Rattle.clip.specs.declared.Clipped.{Clipped}
+use Rattle.clip.specs.declared.Clipped.the-variants.{Kept, Missed, Refused}
+use Rattle.trace.specs.Trace.{touching, untouched, edgeCut, cutsFrom, cutsOf}
+use Rattle.trace.specs.Records.{endsOf, cutBytes, recordsOf}
+use Rattle.trace.specs.Promises.{sampleAt, recordAt}
+use Rattle.trace.proofs.OneEdge.{dead-refused, live}
+use Rattle.trace.proofs.Cuts.{length-cuts, length-records}
+
+length-cut : (c : Clipped) → length (cutBytes c) ≡ 40
+length-cut c = length-record (numberOf c) 0 (endsOf (pointsOf c))
+
+-- ---- record k
+first-record : (c : Clipped) (cs : List Clipped) → recordAt 0 (recordsOf (c ∷ cs)) ≡ cutBytes c
+unfolding recordsOf
+first-record c cs = take-at (cutBytes c) (recordsOf cs) 40 (length-cut c)
+
+next-record : (k : ℕ) (c : Clipped) (cs : List Clipped) → recordAt (suc k) (recordsOf (c ∷ cs)) ≡ recordAt k (recordsOf cs)
+unfolding recordsOf
+next-record k c cs =
+    let e : suc k * 40 ≡ length (cutBytes c) + k * 40 = omega (arith, length-cut c) in
+    ap (take 40) (ap (λ (n : ℕ). drop n (cutBytes c ++ recordsOf cs)) e ∙ drop-append-add (cutBytes c) (recordsOf cs) (k * 40))
+
+module _ (touches : Bool) (w : Rect) where
+  record-from : (a : Point) (ps : List Point) (k : ℕ) → k < length ps
+      → recordAt k (recordsOf (cutsFrom touches w a ps)) ≡ cutBytes (edgeCut touches w (sampleAt k (a ∷ ps)) (sampleAt k ps))
+  unfolding cutsFrom
+  record-from a [] k h = absurd (omega arith)
+  record-from a (b ∷ ps) zero h = first-record _ _
+  record-from a (b ∷ ps) (suc k) h = next-record k _ _ ∙ record-from b ps k (omega arith)
+
+  record-is : (ps : List Point) (k : ℕ) → k + 1 < length ps
+      → recordAt k (recordsOf (cutsOf touches w ps)) ≡ cutBytes (edgeCut touches w (sampleAt k ps) (sampleAt (k + 1) ps))
+  unfolding cutsOf
+  record-is [] k h = absurd (omega arith)
+  record-is (a ∷ ps) k h = rw (add-one k) (record-from a ps k (omega arith))
+
+  pub own-samples : (ps : List Point) (k : ℕ) → k + 1 < length ps
+      → recordAt k (recordsOf (cutsOf touches w ps)) ≡ recordsOf (cutsOf touches w (sampleAt k ps ∷ sampleAt (k + 1) ps ∷ []))
+  unfolding cutsOf cutsFrom recordsOf
+  own-samples ps k h = record-is ps k h ∙ sym (append-nil _)
+
+  no-record : (ps : List Point) (k : ℕ) → length ps ≤ k + 1 → recordAt k (recordsOf (cutsOf touches w ps)) ≡ []
+  no-record ps k h =
+      let l : length (recordsOf (cutsOf touches w ps)) ≤ k * 40 = omega (arith, length-records (cutsOf touches w ps), length-cuts touches w ps) in
+      ap (take 40) (drop-of-length-le (recordsOf (cutsOf touches w ps)) l) ∙ take-nil 40
+
+  -- another sample elsewhere
+  pub two-at-most : (ps : List Point) (i : ℕ) (p : Point) (k : ℕ) → (k ≡ i → ⊥) → (k + 1 ≡ i → ⊥)
+      → recordAt k (recordsOf (cutsOf touches w (set ps i p))) ≡ recordAt k (recordsOf (cutsOf touches w ps))
+  two-at-most ps i p k n m = go (ltb (k + 1) (length ps)) refl
+    where
+      l : length (set ps i p) ≡ length ps
+      l = length-set ps i p
+
+      go : (b : Bool) → ltb (k + 1) (length ps) ≡ b → recordAt k (recordsOf (cutsOf touches w (set ps i p))) ≡ recordAt k (recordsOf (cutsOf touches w ps))
+      go true e =
+          let h : k + 1 < length ps = ltb-true _ _ e in
+          let here = getD-set-other ps i k p origin n in
+          let next = getD-set-other ps i (k + 1) p origin m in
+          record-is (set ps i p) k (omega (arith, l)) ∙ rw (here, next) (sym (record-is ps k h))
+      go false e =
+          let h : length ps ≤ k + 1 = ltb-false _ _ e in
+          no-record (set ps i p) k (omega (arith, l)) ∙ sym (no-record ps k h)
+
+-- ---- dead samples
+live-number : (a b : Point) (w : Rect) → (pointFine a and pointFine b) ≡ true → numberOf (clipped a b w) ≡ 2 → ⊥
+unfolding numberOf
+live-number a b w p = live (λ c. numberOf c ≡ 2 → ⊥) a b w p (λ s e. omega arith) (λ e. omega arith) (λ e. omega arith)
+
+-- a touch is 0 or 1
+touch-number : (t : Bool) (s : Segment) → numberOf (when t then Missed else Kept s) ≡ 2 → ⊥
+unfolding numberOf when_then_else_
+touch-number true s e = omega arith
+touch-number false s e = omega arith
+
+untouched-number : (a b : Point) (c : Clipped) → (numberOf (untouched a b c) ≡ 2) ↔ (numberOf c ≡ 2)
+unfolding untouched numberOf
+untouched-number a b (Kept s) = (λ e. absurd (touch-number (touching a b s) s e), λ e. absurd (omega arith))
+untouched-number a b Missed = (λ e. e, λ e. e)
+untouched-number a b (Refused n) = (λ e. e, λ e. e)
+
+clipped-dead : (a b : Point) (w : Rect) → (numberOf (clipped a b w) ≡ 2) ↔ ((pointFine a and pointFine b) ≡ false)
+unfolding numberOf
+clipped-dead a b w = (go (pointFine a and pointFine b) refl, λ e. sym (ap numberOf (dead-refused a b w e)))
+  where
+    go : (t : Bool) → (pointFine a and pointFine b) ≡ t → numberOf (clipped a b w) ≡ 2 → (pointFine a and pointFine b) ≡ false
+    go true p e = absurd (live-number a b w p e)
+    go false p e = p
+
+edge-dead : (touches : Bool) (w : Rect) (a b : Point) → (numberOf (edgeCut touches w a b) ≡ 2) ↔ ((pointFine a and pointFine b) ≡ false)
+unfolding edgeCut when_then_else_
+edge-dead true w a b = clipped-dead a b w
+edge-dead false w a b =
+    let (p, q) = untouched-number a b (clipped a b w) in
+    let (r, s) = clipped-dead a b w in
+    (λ e. r (p e), λ e. q (s e))
+
+first-byte : (c : Clipped) → getD (cutBytes c) 0 0 ≡ numberOf c
+unfolding recordBytes headBytes
+first-byte c = refl
+
+pub dead : (touches : Bool) (w : Rect) (ps : List Point) (k : ℕ) → k + 1 < length ps
+    → (getD (recordAt k (recordsOf (cutsOf touches w ps))) 0 0 ≡ 2) ↔ ((pointFine (sampleAt k ps) and pointFine (sampleAt (k + 1) ps)) ≡ false)
+dead touches w ps k h =
+    let e = ap (λ (bs : List ℕ). getD bs 0 0) (record-is touches w ps k h) ∙ first-byte _ in
+    let (p, q) = edge-dead touches w (sampleAt k ps) (sampleAt (k + 1) ps) in
+    (λ f. p (sym e ∙ f), λ f. e ∙ q f)

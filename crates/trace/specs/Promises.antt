@@ -1,0 +1,55 @@
+-- What is promised of a trace, whether touches are kept or not. Statements only; proofs/Promises.antt has their proofs.
+use Prim.Native.Nat.{ℕ, _+_, _-_, _*_, _/_, _%_, _<_}
+use mathlib.Core.Path.{_≡_}
+use mathlib.Core.Logic.{_↔_}
+use mathlib.Core.Bool.{Bool, false}
+use mathlib.Core.List.{List, [], _∷_, _++_}
+use lib.Ieee.{Float}
+use lib.ListN.{length, take, drop, getD, set}
+use Rattle.float.specs.Choice.{_and_}
+use Rattle.answer.specs.Answer.{notFinite}
+use Rattle.plane.specs.Point.{origin}
+use Rattle.plane.specs.declared.point.Point.{Point}
+use Rattle.plane.specs.declared.rect.Rect.{Rect}
+use Rattle.clip.specs.Refuse.{pointFine}
+use Rattle.clip.specs.declared.Clipped.{Clipped}
+use Rattle.trace.specs.Trace.{cutsOf, traceCuts}
+use Rattle.trace.specs.Records.{recordsOf, howMany}
+use Rattle.trace.specs.Answers.{answerOf}
+
+-- sample k, and record k
+abbrev pub sampleAt : ℕ → List Point → Point
+sampleAt k ps = getD ps k origin
+
+abbrev pub recordAt : ℕ → List ℕ → List ℕ
+recordAt k bytes = take 40 (drop (k * 40) bytes)
+
+-- the records and the counts of the whole are those of its two parts, joined and added
+pub record Joined (whole first second : List Clipped) : Type 0 where
+  pub records : recordsOf whole ≡ recordsOf first ++ recordsOf second
+  pub counts : (is : Clipped → Bool) → howMany is whole ≡ howMany is first + howMany is second
+  pub edges : length whole ≡ length first + length second
+
+pub record Promises : Type 0 where
+  -- one edge fewer than samples, and none of no sample
+  pub edges : (touches : Bool) (w : Rect) (fs : List Float) → length (traceCuts touches w fs) ≡ length fs / 2 - 1
+  -- each is kept, missed or refused, in every answer
+  pub counts : (fs : List Float) (w : Rect) (bytes : ℕ)
+      → let r = answerOf fs w bytes in r .kept + r .missed + r .refused ≡ r .edges
+  -- record k is the one record of the trace of samples k and k + 1
+  pub own-samples : (touches : Bool) (w : Rect) (ps : List Point) (k : ℕ) → k + 1 < length ps
+      → recordAt k (recordsOf (cutsOf touches w ps))
+      ≡ recordsOf (cutsOf touches w (sampleAt k ps ∷ sampleAt (k + 1) ps ∷ []))
+  -- so another sample at i changes at most the records i - 1 and i
+  pub two-at-most : (touches : Bool) (w : Rect) (ps : List Point) (i : ℕ) (p : Point) (k : ℕ)
+      → (k ≡ i → ⊥) → (k + 1 ≡ i → ⊥)
+      → recordAt k (recordsOf (cutsOf touches w (set ps i p))) ≡ recordAt k (recordsOf (cutsOf touches w ps))
+  -- byte 0 of record k is 2 exactly when sample k or k + 1 is dead
+  pub dead : (touches : Bool) (w : Rect) (ps : List Point) (k : ℕ) → k + 1 < length ps
+      → (getD (recordAt k (recordsOf (cutsOf touches w ps))) 0 0 ≡ notFinite)
+      ↔ ((pointFine (sampleAt k ps) and pointFine (sampleAt (k + 1) ps)) ≡ false)
+  -- a trace cut at the sample x, y, which is sent in both halves
+  pub joins : (touches : Bool) (w : Rect) (fs gs : List Float) (x y : Float) → length fs % 2 ≡ 0
+      → Joined (traceCuts touches w (fs ++ (x ∷ y ∷ gs)))
+      (traceCuts touches w (fs ++ (x ∷ y ∷ [])))
+      (traceCuts touches w (x ∷ y ∷ gs))

@@ -1,0 +1,31 @@
+//! A whole trace in one call. The crate s2 has nothing like it; each edge is cut as
+//! [`clip_edge`](crate::s2::edge_clipping::clip_edge) cuts it.
+
+use crate::r2::rect::Rect;
+use crate::{ffi, Refusal};
+
+/// The edges of a trace.
+#[derive(Clone, Copy, Debug, Default, Eq, PartialEq)]
+#[repr(C)]
+pub struct Counts {
+    /// Those with a part in the window.
+    pub kept: usize,
+    /// Those with none.
+    pub missed: usize,
+    /// Those that touch a dead sample, one with a float that is NaN or an infinity.
+    pub refused: usize,
+    /// All of them.
+    pub edges: usize,
+}
+
+/// Cuts every edge of a trace, from each sample to the next, to the window, and writes a record of 40 bytes for each,
+/// from the buffer's first byte on: the number of the edge's answer (0 kept, 1 missed, 2 a dead sample) and seven zero
+/// bytes, then a.x, a.y, b.x, b.y of the kept points, little-endian, zeros unless it is kept. The samples are x and y
+/// in turn; no sample or one has no edge. A dead sample is refused in the records of the edges that touch it, and
+/// nowhere else. So a trace cut at a sample, which is sent in both parts, gives the same records.
+///
+/// Refused with BadTrace, BadWindow, ShortBuffer. The bytes after the last record stay as they were, and where it is
+/// refused all do.
+pub fn cut_trace(samples: &[f64], window: Rect, out: &mut [u8]) -> Result<Counts, Refusal> {
+    ffi::umb_cut_trace(samples, window, out)
+}
