@@ -1,5 +1,5 @@
 -- An input cut between samples: its floats are those of its parts, and the join law does the rest.
-use Prim.Native.Nat.{ℕ, zero, suc, _+_, _-_, _*_, _/_, _%_, _≤_}
+use Prim.Native.Nat.{ℕ, zero, suc, _+_, _-_, _*_, _%_, _≤_}
 use native.Mathlib.Omega.{arith}
 use native.Mathlib.Nat.{add-zero}
 use native.Mathlib.Numerals.{add-one}
@@ -14,7 +14,6 @@ use Rattle.buffer.specs.Bytes.{word, wordAt}
 use Rattle.plane.specs.Point.{at}
 use Rattle.plane.specs.declared.point.Point.{Point}
 use Rattle.plane.specs.declared.rect.Rect.{Rect}
-use Rattle.clip.specs.declared.Clipped.{Clipped}
 use Rattle.trace.specs.Trace.{traceCuts}
 use Rattle.trace.specs.Promises.{Joined}
 use Rattle.trace.proofs.Joins.{joins}

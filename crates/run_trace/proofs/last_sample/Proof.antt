@@ -1,5 +1,4 @@
 -- `last_sample` is the last two floats, where there are two.
-use native.Mathlib.Omega.{arith}
 use Rattle.run_trace.proofs.Cutting.{last-none, last-is}
 use borrow.Author.Needs.{needs}
 use Rattle.run_trace.proofs.last_sample.Statement.{statement}
