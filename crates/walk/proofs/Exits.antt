@@ -1,20 +1,21 @@
 -- What each way out of the entry leaves.
-use Prim.Native.Nat.{ℕ, _/_, _≤_, _<_}
+use Prim.Native.Nat.{ℕ, _*_, _/_, _≤_, _<_}
 use native.Mathlib.Omega.{arith}
 use mathlib.Core.Path.{_≡_, refl, sym, ap, _∙_}
 use mathlib.Core.List.{List}
-use lib.ListN.{length}
+use lib.ListN.{length, take}
 use Rattle.float.proofs.Choice.{when-le, when-gt}
 use Rattle.answer.proofs.Beside.{ask-done, ask-other}
 use Rattle.buffer.specs.Bytes.{stored}
-use Rattle.buffer.proofs.Stored.{stored-front}
+use Rattle.buffer.proofs.Stored.{length-stored, stored-front}
 use Rattle.cube.specs.declared.vector.Vector.{Vector}
 use Rattle.cube.specs.declared.compute.Uv.{Uv}
 use Rattle.walk.specs.Walk.{stopNumber, segments, countOf, recordsOf}
 use Rattle.walk.specs.Refuse.{inputRefusal, roomRefusal, walkNumber}
 use Rattle.walk.specs.Answers.{walkAnswer, bufferAfter}
 use Rattle.walk.specs.declared.compute.WalkAnswer.{WalkAnswer}
-use Rattle.walk.proofs.Records.{length-records, length-segments}
+use Rattle.walk.proofs.Records.{length-records, length-segments, records-within}
+use Rattle.walk.proofs.Copied.{stored-taken}
 use Rattle.walk.proofs.Stops.{answer-done, answer-other}
 
 room-short : (count bytes : ℕ) → bytes / 40 < count → 8 ≡ roomRefusal count bytes
@@ -37,9 +38,20 @@ module _ (f : ℕ) (a : Uv) (t : ℕ) (b : Uv) (p : Vector) where
     none-is : (r .number ≡ 0 → ⊥) → r .count ≡ 0
     none-is z = ap (λ (r : WalkAnswer). r .count) g ∙ sym (ask-other _ _ 0 _ 0 number-is z refl)
 
-    -- the records fit where so many are held whole
-    pub fits : (bytes : ℕ) → r .number ≡ 0 → r .count ≤ bytes / 40 → length (recordsOf (segments 8 p f a t b)) ≤ bytes
-    fits bytes q h = omega (arith, count-is q, length-records (segments 8 p f a t b))
+    -- its records: so many bytes
+    so-long : r .number ≡ 0 → length (recordsOf (segments 8 p f a t b)) ≡ r .count * 40
+    so-long q = omega (arith, count-is q, length-records (segments 8 p f a t b))
+
+    -- ---- and they stand aside, over bytes zs that hold eight
+    module _ (q : r .number ≡ 0) (zs aside : List ℕ) (z : 320 ≤ length zs) (w : stopNumber 8 p f t ≡ 0 → aside ≡ stored zs 0 (recordsOf (segments 8 p f a t b))) where
+      there : aside ≡ stored zs 0 (recordsOf (segments 8 p f a t b))
+      there = w (sym number-is ∙ q)
+
+      pub aside-holds : r .count * 40 ≤ length aside
+      aside-holds = omega (arith, so-long q, records-within 8 p f a t b, ap length there, length-stored zs 0 (recordsOf (segments 8 p f a t b)))
+
+      pub aside-taken : take (r .count * 40) aside ≡ recordsOf (segments 8 p f a t b)
+      aside-taken = rw (there, ← so-long q) (stored-taken zs _ (omega (arith, records-within 8 p f a t b)))
 
   -- ---- the answer, and the buffer after
   module _ (xs ys : List ℕ) where
@@ -71,11 +83,11 @@ module _ (f : ℕ) (a : Uv) (t : ℕ) (b : Uv) (p : Vector) where
             let l : length xs / 40 < length (segments 8 p f a t b) = omega (arith, count-is r g q) in
             refused 8 (by-room 8 q (room-short _ _ l)) (λ h. omega arith) u
 
-        pub by-done : r .number ≡ 0 → r .count ≤ length xs / 40 → ys ≡ stored xs 0 (recordsOf (segments 8 p f a t b)) → Left r
+        pub by-done : r .number ≡ 0 → r .count ≤ length xs / 40 → (bs : List ℕ) → bs ≡ recordsOf (segments 8 p f a t b) → ys ≡ stored xs 0 bs → Left r
         unfolding bufferAfter
-        by-done q h u =
+        by-done q h bs k u =
             let l : length (segments 8 p f a t b) ≤ length xs / 40 = omega (arith, count-is r g q) in
             let e : 0 ≡ walkNumber (length xs) f a t b p = by-room 0 q (room-enough _ _ l) in (
               answer-done _ _ _ _ q (sym e) (count-is r g q),
-              ask-done 0 _ ys _ xs e refl (u ∙ stored-front xs _ (fits r g (length xs) q h)),
+              ask-done 0 _ ys _ xs e refl (u ∙ ap (stored xs 0) k ∙ stored-front xs _ (omega (arith, so-long r g q))),
             )

@@ -12,3 +12,5 @@ pub mod Agree
 pub mod Faces
 pub mod Arrive
 pub mod Promises
+pub mod Copied
+pub mod Step

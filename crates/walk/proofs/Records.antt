@@ -7,7 +7,7 @@ use mathlib.Core.Bool.{Bool, true, false}
 use lib.Dec.{eqb}
 use lib.ListN.{length, length-append}
 use Rattle.float.specs.Choice.{when_then_else_}
-use Rattle.float.proofs.Choice.{when-eq, when-ne}
+use Rattle.float.proofs.Choice.{cases, when-eq, when-ne}
 use Rattle.buffer.specs.Bytes.{stored, placed}
 use Rattle.cube.specs.declared.vector.Vector.{Vector}
 use Rattle.cube.specs.declared.compute.Uv.{Uv}
@@ -34,6 +34,15 @@ unfolding segments countOf
 length-segments zero p f a t b = refl
 length-segments (suc k) p f a t b = either (eqb f t) _ _ _ _ (length-segments k p (onward p f t) _ t b)
 
+count-within : (k : ℕ) (p : Vector) (f t : ℕ) → countOf k p f t ≤ k
+unfolding countOf
+count-within zero p f t = omega arith
+count-within (suc k) p f t = cases (λ (n : ℕ). n ≤ suc k) (eqb f t) _ _ (λ e. omega arith) (λ e. omega (arith, count-within k p (onward p f t) t))
+
+-- k faces have at most k records
+pub records-within : (k : ℕ) (p : Vector) (f : ℕ) (a : Uv) (t : ℕ) (b : Uv) → length (recordsOf (segments k p f a t b)) ≤ k * 40
+records-within k p f a t b = omega (arith, length-records (segments k p f a t b), length-segments k p f a t b, count-within k p f t)
+
 -- ---- a record, then the rest
 module _ (p : Vector) (f : ℕ) (a : Uv) (t : ℕ) (b : Uv) (s : Ends) where
   records-last : (k : ℕ) → 0 < k → f ≡ t → s ≡ endsOf a b → recordsOf (segments k p f a t b) ≡ recordBytes f 0 s ++ []
@@ -58,8 +67,3 @@ module _ (xs ys : List ℕ) (to : ℕ) (p : Vector) (f : ℕ) (a : Uv) (t : ℕ)
   pub goes-on : (e c : Uv) (g : ℕ) → (f ≡ t → ⊥) → e ≡ leftAt p f → s ≡ endsOf a e → g ≡ onward p f t → c ≡ movedTo f e g
       → Ahead xs ys to (recordsOf (segments (k - 1) p g c t b)) (recordsOf (segments k p f a t b))
   goes-on e c g n ee es eg ec = ahead xs ys to f 0 s _ _ (records-onward p f a t b s k e c g h n ee es eg ec) r w
-
-pub none-left : (xs : List ℕ) (to k : ℕ) (p : Vector) (f : ℕ) (a : Uv) (t : ℕ) (b : Uv) → k ≤ 0 → xs ≡ stored xs to (recordsOf (segments k p f a t b))
-unfolding segments recordsOf stored
-none-left xs to zero p f a t b h = refl
-none-left xs to (suc k) p f a t b h = absurd (omega arith)

@@ -29,12 +29,12 @@ module _ (p : Vector) (f t : ℕ) where
   at-miss zero h n m = absurd (omega arith)
   at-miss (suc k) h n m = sym (when-ne f t _ _ _ n (else-is _ _ _ _ m refl))
 
-  pub at-limit : (k : ℕ) → k ≤ 0 → stopNumber k p f t ≡ 7
-  unfolding stopNumber
-  at-limit zero h = refl
-  at-limit (suc k) h = absurd (omega arith)
-
   pub goes-on : (k g : ℕ) → 0 < k → (f ≡ t → ⊥) → met p f ≡ true → g ≡ onward p f t → (stopNumber (k - 1) p g t ≡ stopNumber k p f t) × (suc (countOf (k - 1) p g t) ≡ countOf k p f t)
   unfolding stopNumber countOf
   goes-on zero g h n m e = absurd (omega arith)
   goes-on (suc k) g h n m e = let d : suc k - 1 ≡ k = omega arith in rw (d, e) (when-ne f t _ _ _ n (then-is _ _ _ _ m refl), when-ne f t _ _ _ n refl)
+
+  -- at the last face that is allowed, it would go on to a face too many
+  pub at-limit : (k : ℕ) → k ≡ 1 → (f ≡ t → ⊥) → met p f ≡ true → stopNumber k p f t ≡ 7
+  unfolding stopNumber
+  at-limit k h n m = rw h (sym (when-ne f t _ _ _ n (then-is _ _ _ _ m refl)))

@@ -2,19 +2,22 @@
 //
 // `walk` is the entry: it answers the number of what is refused, in document 01's order (4, 2, 5,
 // then 6 or 7 as the walk finds them, then 8), and beside 0 the count of its segments, whose records
-// it writes. `compute` has the walk itself, for any normal and any points, and refuses nothing.
+// it writes. `compute` has a step of the walk, for any normal and any point, and refuses nothing.
 pub mod compute;
 pub mod refuse;
 
 ghost use Prim.Native.Nat.{_≤_};
 ghost use mathlib.Core.Path.{_≡_};
-ghost use lib.ListN.{length};
+ghost use lib.ListN.{length, take};
 ghost use Rattle.buffer.specs.Bytes.{stored};
-ghost use Rattle.walk.specs.Walk.{segments, endsOf, recordsOf};
+ghost use Rattle.answer.specs.Answer.{done};
+ghost use Rattle.walk.specs.Walk.{stopNumber, segments, countOf, endsOf, recordsOf};
 ghost use Rattle.walk.specs.Refuse.{walkNumber};
 ghost use Rattle.walk.specs.Answers.{walkAnswer, bufferAfter};
 use answer::DONE;
+use answer::OFF_FACE;
 use answer::SHORT_BUFFER;
+use answer::UNFINISHED;
 pub use compute::WalkAnswer;
 use cube::Vector;
 use cube::compute::Uv;
@@ -34,7 +37,9 @@ pub fn walk(face: u8, a: Uv, target: u8, b: Uv, normal: Vector, out: &mut [u8]) 
     if number != DONE {
         return WalkAnswer { number, count: 0 };
     }
-    let found = compute::survey(face, target, normal);
+    // The records stand here until the walk has arrived and is known to fit; a refused one leaves out as it was.
+    let mut aside = [0u8; 320];
+    let found = put_segments(&mut aside, face, a, target, b, normal);
     if found.number != DONE {
         return found;
     }
@@ -44,31 +49,49 @@ pub fn walk(face: u8, a: Uv, target: u8, b: Uv, normal: Vector, out: &mut [u8]) 
             count: 0,
         };
     }
-    put_segments(out, face, a, target, b, normal);
+    copy(out, &aside, found.count * record::LENGTH);
     found
 }
 
-// ---- the records
+// ---- the walk
 
-// The records of the walk's segments, one after the other from the first byte on, where they fit.
-fn put_segments(out: &mut [u8], face: u8, a: Uv, target: u8, b: Uv, normal: Vector)
-    requires { ⌜ length (recordsOf (segments 8 normal face a target b)) ≤ length (now out) ⌝ }
-    ensures { λ _. ⌜ now (out .exit) ≡ stored (now (out .entry)) 0 (recordsOf (segments 8 normal face a target b)) ⌝ }
+// From the face toward the target, at most 8 faces: left on arrival, at a face that the line does not meet, or at the
+// limit. The record of each segment as it is closed, one after the other from the first byte on; all of them are there
+// where it arrives.
+fn put_segments(out: &mut [u8], face: u8, a: Uv, target: u8, b: Uv, normal: Vector) -> WalkAnswer
+    requires { ⌜ 320 ≤ length (now out) ⌝ }
+    ensures answer { λ r. ⌜ r ≡ walkAnswer (stopNumber 8 normal face target) (countOf 8 normal face target) ⌝ }
+    ensures bytes { λ _. ⌜ (stopNumber 8 normal face target ≡ done → now (out .exit) ≡ stored (now (out .entry)) 0 (recordsOf (segments 8 normal face a target b))) ⌝ }
 {
     let mut at = face;
     let mut begin = a;
     let mut to: usize = 0;
     let mut left: usize = 8;
-    while 0 < left {
+    loop {
         if at == target {
             record::put_record(out, to, at, 0, ends(begin, b));
-            return;
+            return WalkAnswer {
+                number: DONE,
+                count: 9 - left,
+            };
         }
-        let end = compute::exit(at, normal);
-        record::put_record(out, to, at, 0, ends(begin, end));
-        let next = compute::onward(at, target, normal);
-        begin = compute::moved(at, end, next);
-        at = next;
+        let n = cube::compute::face_xyz_to_uvw(at, normal);
+        if !line::compute::intersects_face(n) {
+            return WalkAnswer {
+                number: OFF_FACE,
+                count: 0,
+            };
+        }
+        if left == 1 {
+            return WalkAnswer {
+                number: UNFINISHED,
+                count: 0,
+            };
+        }
+        let step = compute::step(at, n, target);
+        record::put_record(out, to, at, 0, ends(begin, step.exit));
+        begin = compute::moved(at, step.exit, step.next);
+        at = step.next;
         to += record::LENGTH;
         left -= 1;
     }
@@ -82,5 +105,17 @@ fn ends(a: Uv, b: Uv) -> Ends
         av: a.v,
         bu: b.u,
         bv: b.v,
+    }
+}
+
+// The first n bytes of one slice to the front of another; both have as many.
+fn copy(out: &mut [u8], from: &[u8], n: usize)
+    requires { ⌜ (n ≤ length (now out)) × (n ≤ length (now from)) ⌝ }
+    ensures { λ _. ⌜ now (out .exit) ≡ stored (now (out .entry)) 0 (take n (now (from .entry))) ⌝ }
+{
+    let mut i: usize = 0;
+    while i < n {
+        out[i] = from[i];
+        i += 1;
     }
 }

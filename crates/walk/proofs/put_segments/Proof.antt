@@ -1,26 +1,32 @@
--- `put_segments` stores the records. The loop's invariant: the records of what is left of the walk fit at `to`, and stored there they give what all would have given.
-use Prim.Native.Nat.{_+_, _*_, _≤_}
-use mathlib.Core.Path.{_≡_, refl, _∙_}
+-- `put_segments` is the walk's number and count, and where it arrives its records are stored. The loop's invariant: what is left of the walk has its number, and with the faces behind it its count; its records fit at `to`, and stored there they give what all would have given.
+use Prim.Native.Nat.{_+_, _-_, _*_, _≤_, _<_}
+use mathlib.Core.Path.{_≡_, refl, sym, _∙_}
 use native.Mathlib.Omega.{arith}
 use lib.ListN.{length}
 use borrow.Author.Needs.{needs}
+use borrow.Author.Tests.{not-true, not-false}
 use Rattle.buffer.specs.Bytes.{stored}
 use Rattle.buffer.proofs.Stored.{placed-length}
-use Rattle.walk.specs.Walk.{segments, recordsOf}
-use Rattle.walk.proofs.Records.{last-stored, goes-on, none-left}
+use Rattle.walk.specs.Walk.{stopNumber, segments, countOf, recordsOf}
+use Rattle.walk.proofs.Stops.{answer-done, answer-other, at-target, at-miss, at-limit, goes-on}
+use Rattle.walk.proofs.Step.{tested, exit-is, next-is}
+use Rattle.walk.proofs.Records as records
 use Rattle.walk.proofs.put_segments.Statement.{statement}
 use Rattle.walk.proofs.put_segments.Tie as tie
 
 abbrev Inv-loop : tie.InvT-loop
 Inv-loop out₀ face target b normal at₀ begin₀ to₀ left₀ out at begin to left =
-    (to + left * 40 ≡ 320) × (length out ≡ length out₀) × (to + length (recordsOf (segments left normal at begin target b)) ≤ length out)
+    (0 < left) × (to + left * 40 ≡ 320) × (length out ≡ length out₀)
+    × (stopNumber left normal at target ≡ stopNumber 8 normal face target)
+    × (8 - left + countOf left normal at target ≡ countOf 8 normal face target)
+    × (to + length (recordsOf (segments left normal at begin target b)) ≤ length out)
     × (stored out to (recordsOf (segments left normal at begin target b)) ≡ stored out₀ 0 (recordsOf (segments 8 normal face begin₀ target b)))
 
 abbrev μ-loop : tie.MeasureT-loop
 μ-loop out₀ face target b normal at₀ begin₀ to₀ left₀ out at begin to left = left
 
 loop-holds : tie.Need-loop-holds Inv-loop μ-loop
-loop-holds c = (omega arith, refl, omega arith, refl)
+loop-holds c = let g = c .before .args in (omega arith, omega arith, refl, refl, omega arith, omega (arith, records.records-within 8 (g .normal) (g .face) (g .a) (g .target) (g .b)), refl)
 
 ends-requires : tie.Need-ends-requires Inv-loop μ-loop
 ends-requires c κs = search needs
@@ -28,27 +34,58 @@ ends-requires c κs = search needs
 put-record-requires : tie.Need-put-record-requires Inv-loop μ-loop
 put-record-requires c κs = search needs
 
+sub-t18 : tie.Need-sub-t18 Inv-loop μ-loop
+sub-t18 c = omega arith
+
 same-length : tie.Need-same-length Inv-loop μ-loop
-same-length c = placed-length _ _ _ _ (c .before .before .put-record .ensures) ∙ c .before .before .before .before .before .before .before .loop .inv .1
+same-length c = placed-length _ _ _ _ (c .before .before .put-record .ensures) ∙ c .before .before .before .before .before .before .loop .inv .2
 
 returns : tie.Need-returns Inv-loop μ-loop
 returns c =
-    let l = c .before .before .before .before .before .before .before .loop in
-    let w = c .before .before .put-record .ensures in
-    let e = c .before .before .before .before .before .if1 .taken in
-    last-stored (l .out) _ (l .to) _ (l .at) (l .begin) _ _ _ (l .left) (omega arith) (l .inv .2) w e (c .before .before .before .ends .ensures) ∙ l .inv .3
+    let d = c .before .before in
+    let i = d .before .before .before in
+    let l = i .before .loop in
+    let w = at-target _ (l .at) _ (l .left) (l .inv .0) (i .if1 .taken) in (
+      answer-done _ _ _ _ refl (sym (l .inv .3) ∙ w .0) (omega (arith, w .1, l .inv .4)),
+      λ z. records.last-stored (l .out) _ (l .to) _ (l .at) (l .begin) _ _ _ (l .left) (l .inv .0) (l .inv .5) (d .put-record .ensures) (i .if1 .taken) (d .before .ends .ensures) ∙ l .inv .6,
+    )
 
-exit-requires : tie.Need-exit-requires Inv-loop μ-loop
-exit-requires c κs = search needs
+face-xyz-to-uvw-requires : tie.Need-face-xyz-to-uvw-requires Inv-loop μ-loop
+face-xyz-to-uvw-requires c κs = search needs
+
+intersects-face-requires : tie.Need-intersects-face-requires Inv-loop μ-loop
+intersects-face-requires c κs = search needs
+
+same-length-2 : tie.Need-same-length-2 Inv-loop μ-loop
+same-length-2 c = c .before .before .before .before .loop .inv .2
+
+returns-2 : tie.Need-returns-2 Inv-loop μ-loop
+returns-2 c =
+    let i = c .before .before .before in
+    let l = i .before .loop in
+    let m = tested _ (l .at) _ (c .before .before .face-xyz-to-uvw .ensures) _ _ (c .before .intersects-face .ensures) (not-true _ (c .if2 .taken)) in
+    let e = sym (at-miss _ (l .at) _ (l .left) (l .inv .0) (i .if1 .left) m) ∙ l .inv .3 in
+    (answer-other _ _ _ e (λ h. omega arith), λ z. absurd (omega arith))
+
+same-length-3 : tie.Need-same-length-3 Inv-loop μ-loop
+same-length-3 c = c .before .before .before .before .before .loop .inv .2
+
+returns-3 : tie.Need-returns-3 Inv-loop μ-loop
+returns-3 c =
+    let i = c .before .before .before .before in
+    let l = i .before .loop in
+    let m = tested _ (l .at) _ (c .before .before .before .face-xyz-to-uvw .ensures) _ _ (c .before .before .intersects-face .ensures) (not-false _ (c .before .if2 .left)) in
+    let e = sym (at-limit _ (l .at) _ (l .left) (c .if3 .taken) (i .if1 .left) m) ∙ l .inv .3 in
+    (answer-other _ _ _ e (λ h. omega arith), λ z. absurd (omega arith))
+
+step-requires : tie.Need-step-requires Inv-loop μ-loop
+step-requires c κs = search needs
 
 ends-requires-2 : tie.Need-ends-requires-2 Inv-loop μ-loop
 ends-requires-2 c κs = search needs
 
 put-record-requires-2 : tie.Need-put-record-requires-2 Inv-loop μ-loop
 put-record-requires-2 c κs = search needs
-
-onward-requires : tie.Need-onward-requires Inv-loop μ-loop
-onward-requires c κs = search needs
 
 moved-requires : tie.Need-moved-requires Inv-loop μ-loop
 moved-requires c κs = search needs
@@ -64,19 +101,19 @@ loop-less c = omega arith
 
 loop-again : tie.Need-loop-again Inv-loop μ-loop
 loop-again c =
-    let l = c .before .before .before .before .before .before .before .before .before .before .loop in
-    let w = c .before .before .before .before .put-record2 .ensures in
-    let n = c .before .before .before .before .before .before .before .before .if1 .left in
-    let e = c .before .before .before .before .before .before .before .exit .ensures in
-    let d = c .before .before .before .before .before .ends2 .ensures in
-    let a = goes-on (l .out) _ (l .to) _ (l .at) (l .begin) _ _ _ (l .left) (omega arith) (l .inv .2) w _ _ _ n e d (c .before .onward .ensures) (c .moved .ensures) in
-    (omega arith, a .long ∙ l .inv .1, a .room, a .same ∙ l .inv .3)
-
-same-length-2 : tie.Need-same-length-2 Inv-loop μ-loop
-same-length-2 c = c .before .loop .inv .1
-
-returns-2 : tie.Need-returns-2 Inv-loop μ-loop
-returns-2 c = none-left _ _ _ _ _ _ _ _ (omega arith) ∙ c .before .loop .inv .3
+    let w = c .before .before .before in
+    let s = w .before .before .before in
+    let o = s .before in
+    let f = o .before .before .before in
+    let i = f .before in
+    let l = i .before .loop in
+    let u = f .face-xyz-to-uvw .ensures in
+    let n = i .if1 .left in
+    let g = next-is _ (l .at) _ u _ _ (s .step .ensures) in
+    let m = tested _ (l .at) _ u _ _ (o .before .before .intersects-face .ensures) (not-false _ (o .before .if2 .left)) in
+    let k = goes-on _ (l .at) _ (l .left) _ (l .inv .0) n m g in
+    let a = records.goes-on (l .out) _ (l .to) _ (l .at) (l .begin) _ _ _ (l .left) (l .inv .0) (l .inv .5) (w .put-record2 .ensures) _ _ _ n (exit-is _ (l .at) _ u _ _ (s .step .ensures)) (w .before .ends2 .ensures) g (c .moved .ensures) in
+    (omega (arith, o .if3 .left), omega arith, a .long ∙ l .inv .2, k .0 ∙ l .inv .3, omega (arith, k .1, l .inv .4), a .room, a .same ∙ l .inv .6)
 
 pub put-segments-spec : {M : Type 1} → statement M
 put-segments-spec =
@@ -87,16 +124,20 @@ put-segments-spec =
     loop-holds
     ends-requires
     put-record-requires
+    sub-t18
     same-length
     returns
-    exit-requires
+    face-xyz-to-uvw-requires
+    intersects-face-requires
+    same-length-2
+    returns-2
+    same-length-3
+    returns-3
+    step-requires
     ends-requires-2
     put-record-requires-2
-    onward-requires
     moved-requires
     add-to
     sub-left
     loop-less
-    loop-again
-    same-length-2
-    returns-2)
+    loop-again)
