@@ -83,24 +83,40 @@ static const struct input {
     const char *name;
     void (*make)(edge *edges, size_t count);     /* edges */
     umb_point (*sample)(size_t i, size_t count); /* a whole trace */
+    walk_input (*walk)(size_t segments);         /* walks */
+    size_t segments;
 } inputs[] = {
-    {"random", random_edges, 0},
-    {"trace", trace_edges, 0},
-    {"outside", outside_edges, 0},
-    {"inside", inside_edges, 0},
-    {"line", 0, 0},
-    {"walk", 0, 0},
-    {"whole-trace", 0, sample},
-    {"whole-random", 0, anywhere},
-    {"whole-outside", 0, along_sides},
-    {"whole-inside", 0, inside},
-    {"whole-seldom-dead", 0, seldom_dead},
-    {"whole-in-and-out", 0, in_and_out},
-    {"whole-across", 0, across},
-    {"whole-corners", 0, round_corners},
-    {"whole-dead", 0, dead},
+    {"random", .make = random_edges},
+    {"trace", .make = trace_edges},
+    {"outside", .make = outside_edges},
+    {"inside", .make = inside_edges},
+    {.name = "line"},
+    {"walk", .walk = walk_of},
+    {"walk-1", .walk = walk_of, .segments = 1},
+    {"walk-2", .walk = walk_of, .segments = 2},
+    {"walk-3", .walk = walk_of, .segments = 3},
+    {"walk-4", .walk = walk_of, .segments = 4},
+    {"walk-5", .walk = walk_of, .segments = 5},
+    {"walk-6", .walk = walk_of, .segments = 6},
+    {"walk-tight-1", .walk = tight_walk, .segments = 1},
+    {"walk-tight-2", .walk = tight_walk, .segments = 2},
+    {"walk-tight-3", .walk = tight_walk, .segments = 3},
+    {"walk-tight-4", .walk = tight_walk, .segments = 4},
+    {"walk-tight-5", .walk = tight_walk, .segments = 5},
+    {"walk-off-face", .walk = walk_off_face},
+    {"walk-unfinished", .walk = unfinished_walk},
+    {"walk-short", .walk = short_walk},
+    {"whole-trace", .sample = sample},
+    {"whole-random", .sample = anywhere},
+    {"whole-outside", .sample = along_sides},
+    {"whole-inside", .sample = inside},
+    {"whole-seldom-dead", .sample = seldom_dead},
+    {"whole-in-and-out", .sample = in_and_out},
+    {"whole-across", .sample = across},
+    {"whole-corners", .sample = round_corners},
+    {"whole-dead", .sample = dead},
 };
-enum { INPUTS = sizeof inputs / sizeof inputs[0], LINE = 4, WALK = 5 };
+enum { INPUTS = sizeof inputs / sizeof inputs[0], LINE = 4 };
 
 static size_t input, count;
 static edge *edges;
@@ -117,14 +133,21 @@ static bool is_trace(void) {
     return inputs[input].sample != 0;
 }
 
-/* One sample more than edges; and no byte of the records is right before it is written. */
+static bool is_walk(void) {
+    return inputs[input].walk != 0;
+}
+
+/* One sample more than edges. */
 static void make_trace(void) {
     for (size_t i = 0; i <= count; i++) {
         umb_point p = inputs[input].sample(i, count);
         samples[2 * i] = p.x;
         samples[2 * i + 1] = p.y;
     }
-    for (size_t byte = 0; byte < count * RECORD_BYTES; byte++) records[byte] = 0xee;
+}
+
+static void make_walks(void) {
+    for (size_t i = 0; i < count; i++) walked[i] = inputs[input].walk(inputs[input].segments);
 }
 
 static void make_inputs(void) {
@@ -136,9 +159,11 @@ static void make_inputs(void) {
     ends = calloc(count, sizeof *ends);
     samples = calloc(count + 1, 2 * sizeof *samples);
     records = calloc(count, WALK_BYTES);
+    /* No byte is right before it is written. */
+    for (size_t byte = 0; byte < count * WALK_BYTES; byte++) records[byte] = 0xee;
     if (is_trace()) make_trace();
     else if (input == LINE) normals(lines, count);
-    else if (input == WALK) walks(walked, count);
+    else if (is_walk()) make_walks();
     else inputs[input].make(edges, count);
 }
 
@@ -155,7 +180,7 @@ static void test_all(meets_function *meets) {
 static void walk_all(walk_function *walk) {
     for (size_t i = 0; i < count; i++) {
         const walk_input *w = &walked[i];
-        ends[i] = walk(w->face, w->a, w->target, w->b, w->normal, records + i * WALK_BYTES, WALK_BYTES);
+        ends[i] = walk(w->face, w->a, w->target, w->b, w->normal, records + i * WALK_BYTES, w->room);
     }
 }
 
@@ -165,13 +190,13 @@ static void cut_trace(trace_function *trace) {
 
 static bool has(const struct contestant *c) {
     if (is_trace()) return c->trace == crate_edge_by_edge ? c->cut != 0 : c->trace != 0;
-    return input == LINE ? c->meets != 0 : input == WALK ? c->walk != 0 : c->cut != 0;
+    return input == LINE ? c->meets != 0 : is_walk() ? c->walk != 0 : c->cut != 0;
 }
 
 static void call_all(const struct contestant *c) {
     if (is_trace()) cut_trace(c->trace);
     else if (input == LINE) test_all(c->meets);
-    else if (input == WALK) walk_all(c->walk);
+    else if (is_walk()) walk_all(c->walk);
     else cut_all(c->cut);
 }
 
@@ -203,7 +228,7 @@ static void add_counts(void) {
     add(counts.edges);
 }
 
-/* Adds answer i to the sum, padding left out, and says whether something was done: kept, met or walked. */
+/* Adds answer i to the sum, padding left out, and says whether something was done: kept, met or walked as was due. */
 static bool add_answer(size_t i) {
     if (is_trace()) {
         add_bytes(records + i * RECORD_BYTES, RECORD_BYTES);
@@ -214,11 +239,12 @@ static bool add_answer(size_t i) {
         add(answers[i].yes);
         return answers[i].yes;
     }
-    if (input == WALK) {
+    if (is_walk()) {
+        const umb_walk_answer *due = &walked[i].due;
         add(ends[i].number);
         add(ends[i].count);
         add_bytes(records + i * WALK_BYTES, WALK_BYTES);
-        return ends[i].number == UMB_DONE;
+        return ends[i].number == due->number && ends[i].count == due->count;
     }
     add(cuts[i].number);
     add_words(&cuts[i].a, 2);

@@ -11,10 +11,13 @@ typedef struct edge {
     umb_point a, b;
 } edge;
 
+/* A walk, the bytes that it is lent, and what has to be answered. */
 typedef struct walk_input {
     uint8_t face, target;
     umb_uv a, b;
     umb_vector normal;
+    size_t room;
+    umb_walk_answer due;
 } walk_input;
 
 /* The window of every edge. */
@@ -166,22 +169,90 @@ static double magnitude(double x) {
     return x < 0.0 ? -x : x;
 }
 
-/* Any face that the line meets. */
-static uint8_t face_met(umb_vector n) {
+static bool meets(umb_vector n, uint8_t face) {
     double along[3] = {magnitude(n.x), magnitude(n.y), magnitude(n.z)};
+    return along[(face + 1) % 3] + along[(face + 2) % 3] >= along[face % 3];
+}
+
+static uint8_t any_face(void) {
+    return next_number() % 6;
+}
+
+static uint8_t face_met(umb_vector n) {
     for (;;) {
-        uint8_t face = next_number() % 6;
-        if (along[(face + 1) % 3] + along[(face + 2) % 3] >= along[face % 3]) return face;
+        uint8_t face = any_face();
+        if (meets(n, face)) return face;
     }
 }
 
+/* The face after this one, against the clock around n. With the face's axis called i, and j and k after it in turn, it
+ * is left over j where the point at that edge lies between the corners, else over k. A face of the negative side is
+ * left as its opposite is, to the opposite of that one's next. */
+static uint8_t face_after(uint8_t face, umb_vector n) {
+    double along[3] = {n.x, n.y, n.z};
+    uint8_t i = face % 3, j = (i + 1) % 3, k = (i + 2) % 3;
+    bool to_high_j = along[k] > 0.0, to_high_k = along[j] < 0.0;
+    double at_edge = along[i] + (to_high_j ? along[j] : -along[j]);
+    bool over_j = magnitude(at_edge) <= magnitude(along[k]);
+    bool high = (face < 3) == (over_j ? to_high_j : to_high_k);
+    return (over_j ? j : k) + (high ? 0 : 3);
+}
+
+static size_t segments_between(uint8_t face, uint8_t target, umb_vector n) {
+    size_t segments = 1;
+    for (; face != target; face = face_after(face, n)) segments++;
+    return segments;
+}
+
 /* From a face that the line meets to another, or the same. The ends may stand anywhere on theirs. */
-static void walks(walk_input *inputs, size_t count) {
-    for (size_t i = 0; i < count; i++) {
-        umb_point xy = point_between(-1.0, 1.0), a = point_between(-1.0, 1.0), b = point_between(-1.0, 1.0);
-        umb_vector n = {xy.x, xy.y, between(-1.0, 1.0)};
-        uint8_t face = face_met(n), target = face_met(n);
-        inputs[i] = (walk_input){face, target, {a.x, a.y}, {b.x, b.y}, n};
+static walk_input any_walk(void) {
+    umb_point xy = point_between(-1.0, 1.0), a = point_between(-1.0, 1.0), b = point_between(-1.0, 1.0);
+    umb_vector n = {xy.x, xy.y, between(-1.0, 1.0)};
+    uint8_t face = face_met(n), target = face_met(n);
+    umb_walk_answer due = {UMB_DONE, segments_between(face, target, n)};
+    return (walk_input){face, target, {a.x, a.y}, {b.x, b.y}, n, WALK_BYTES, due};
+}
+
+/* Of so many segments, here and below; 0 is any number of them. */
+static walk_input walk_of(size_t segments) {
+    for (;;) {
+        walk_input w = any_walk();
+        if (segments == 0 || segments == w.due.count) return w;
+    }
+}
+
+/* Into as many bytes as are written. */
+static walk_input tight_walk(size_t segments) {
+    walk_input w = walk_of(segments);
+    w.room = w.due.count * RECORD_BYTES;
+    return w;
+}
+
+/* A byte is missing. */
+static walk_input short_walk(size_t segments) {
+    walk_input w = tight_walk(segments);
+    w.room--;
+    w.due = (umb_walk_answer){UMB_SHORT_BUFFER, 0};
+    return w;
+}
+
+/* From a face that the line misses. */
+static walk_input walk_off_face(size_t segments) {
+    for (;;) {
+        walk_input w = walk_of(segments);
+        w.face = any_face();
+        w.due = (umb_walk_answer){UMB_OFF_FACE, 0};
+        if (!meets(w.normal, w.face)) return w;
+    }
+}
+
+/* To a face that the line misses. */
+static walk_input unfinished_walk(size_t segments) {
+    for (;;) {
+        walk_input w = walk_of(segments);
+        w.target = any_face();
+        w.due = (umb_walk_answer){UMB_UNFINISHED, 0};
+        if (!meets(w.normal, w.target)) return w;
     }
 }
 
