@@ -13,7 +13,7 @@ answer-requires : tie.Need-answer-requires
 answer-requires c κs = search needs
 
 returns : tie.Need-returns
-returns c = cc
+returns c = rw (c .before .exit-axis .ensures, c .before .before .vector .ensures) at (c .answer .ensures)
 
 pub exit-axis-spec : {M : Type 1} → statement M
 exit-axis-spec = tie.close (tie.spec vector-requires exit-axis-requires answer-requires returns)

@@ -13,7 +13,7 @@ answer-requires : tie.Need-answer-requires
 answer-requires c κs = search needs
 
 returns : tie.Need-returns
-returns c = cc
+returns c = rw (c .before .exit-point .ensures, c .before .before .exit .ensures) at (c .answer .ensures)
 
 pub exit-point-spec : {M : Type 1} → statement M
 exit-point-spec = tie.close (tie.spec exit-requires exit-point-requires answer-requires returns)

@@ -13,7 +13,7 @@ answer-requires : tie.Need-answer-requires
 answer-requires c κs = search needs
 
 returns : tie.Need-returns
-returns c = cc
+returns c = rw (c .before .intersects-opposite-edges .ensures, c .before .before .line .ensures) at (c .answer .ensures)
 
 pub intersects-opposite-edges-spec : {M : Type 1} → statement M
 intersects-opposite-edges-spec =

@@ -13,7 +13,7 @@ answer-requires : tie.Need-answer-requires
 answer-requires c κs = search needs
 
 returns : tie.Need-returns
-returns c = cc
+returns c = rw (c .before .next-face .ensures, c .before .before .next .ensures) at (c .answer .ensures)
 
 pub next-face-spec : {M : Type 1} → statement M
 next-face-spec = tie.close (tie.spec next-requires next-face-requires answer-requires returns)

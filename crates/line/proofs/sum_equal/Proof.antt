@@ -13,7 +13,7 @@ answer-requires : tie.Need-answer-requires
 answer-requires c κs = search needs
 
 returns : tie.Need-returns
-returns c = cc
+returns c = rw (c .before .sum-equal .ensures, c .before .before .line .ensures) at (c .answer .ensures)
 
 pub sum-equal-spec : {M : Type 1} → statement M
 sum-equal-spec = tie.close (tie.spec line-requires sum-equal-requires answer-requires returns)

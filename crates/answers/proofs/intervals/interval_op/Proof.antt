@@ -16,7 +16,7 @@ of-yes-no-requires c κs = search needs
 
 returns : tie.Need-returns
 unfolding intervalOp
-returns c = when-eq _ _ _ _ _ (c .before .before .before .if1 .taken) (cc)
+returns c = when-eq _ _ _ _ _ (c .before .before .before .if1 .taken) (rw (c .before .is-empty .ensures, c .before .before .interval-at .ensures) at (c .of-yes-no .ensures))
 
 interval-at-requires-2 : tie.Need-interval-at-requires-2
 interval-at-requires-2 c κs = search needs
@@ -32,7 +32,7 @@ of-yes-no-requires-2 c κs = search needs
 
 returns-2 : tie.Need-returns-2
 unfolding intervalOp
-returns-2 c = when-ne _ _ _ _ _ (c .before .before .before .before .before .if1 .left) (when-eq _ _ _ _ _ (c .before .before .before .before .if2 .taken) (cc))
+returns-2 c = when-ne _ _ _ _ _ (c .before .before .before .before .before .if1 .left) (when-eq _ _ _ _ _ (c .before .before .before .before .if2 .taken) (rw (c .before .contains .ensures, c .before .before .float-at .ensures, c .before .before .before .interval-at2 .ensures) at (c .of-yes-no2 .ensures)))
 
 interval-at-requires-3 : tie.Need-interval-at-requires-3
 interval-at-requires-3 c κs = search needs
@@ -48,7 +48,7 @@ of-yes-no-requires-3 c κs = search needs
 
 returns-3 : tie.Need-returns-3
 unfolding intervalOp
-returns-3 c = when-ne _ _ _ _ _ (c .before .before .before .before .before .before .if1 .left) (when-ne _ _ _ _ _ (c .before .before .before .before .before .if2 .left) (when-eq _ _ _ _ _ (c .before .before .before .before .if3 .taken) (cc)))
+returns-3 c = when-ne _ _ _ _ _ (c .before .before .before .before .before .before .if1 .left) (when-ne _ _ _ _ _ (c .before .before .before .before .before .if2 .left) (when-eq _ _ _ _ _ (c .before .before .before .before .if3 .taken) (rw (c .before .contains-interval .ensures, c .before .before .interval-at4 .ensures, c .before .before .before .interval-at3 .ensures) at (c .of-yes-no3 .ensures))))
 
 interval-at-requires-5 : tie.Need-interval-at-requires-5
 interval-at-requires-5 c κs = search needs
@@ -64,7 +64,7 @@ of-yes-no-requires-4 c κs = search needs
 
 returns-4 : tie.Need-returns-4
 unfolding intervalOp
-returns-4 c = when-ne _ _ _ _ _ (c .before .before .before .before .before .before .before .if1 .left) (when-ne _ _ _ _ _ (c .before .before .before .before .before .before .if2 .left) (when-ne _ _ _ _ _ (c .before .before .before .before .before .if3 .left) (when-eq _ _ _ _ _ (c .before .before .before .before .if4 .taken) (cc))))
+returns-4 c = when-ne _ _ _ _ _ (c .before .before .before .before .before .before .before .if1 .left) (when-ne _ _ _ _ _ (c .before .before .before .before .before .before .if2 .left) (when-ne _ _ _ _ _ (c .before .before .before .before .before .if3 .left) (when-eq _ _ _ _ _ (c .before .before .before .before .if4 .taken) (rw (c .before .intersects .ensures, c .before .before .interval-at6 .ensures, c .before .before .before .interval-at5 .ensures) at (c .of-yes-no4 .ensures)))))
 
 interval-at-requires-7 : tie.Need-interval-at-requires-7
 interval-at-requires-7 c κs = search needs
@@ -80,7 +80,7 @@ of-interval-requires c κs = search needs
 
 returns-5 : tie.Need-returns-5
 unfolding intervalOp
-returns-5 c = when-ne _ _ _ _ _ (c .before .before .before .before .before .before .before .before .if1 .left) (when-ne _ _ _ _ _ (c .before .before .before .before .before .before .before .if2 .left) (when-ne _ _ _ _ _ (c .before .before .before .before .before .before .if3 .left) (when-ne _ _ _ _ _ (c .before .before .before .before .before .if4 .left) (when-eq _ _ _ _ _ (c .before .before .before .before .if5 .taken) (cc)))))
+returns-5 c = when-ne _ _ _ _ _ (c .before .before .before .before .before .before .before .before .if1 .left) (when-ne _ _ _ _ _ (c .before .before .before .before .before .before .before .if2 .left) (when-ne _ _ _ _ _ (c .before .before .before .before .before .before .if3 .left) (when-ne _ _ _ _ _ (c .before .before .before .before .before .if4 .left) (when-eq _ _ _ _ _ (c .before .before .before .before .if5 .taken) (rw (c .before .union .ensures, c .before .before .interval-at8 .ensures, c .before .before .before .interval-at7 .ensures) at (c .of-interval .ensures))))))
 
 interval-at-requires-9 : tie.Need-interval-at-requires-9
 interval-at-requires-9 c κs = search needs
@@ -96,7 +96,7 @@ of-interval-requires-2 c κs = search needs
 
 returns-6 : tie.Need-returns-6
 unfolding intervalOp
-returns-6 c = when-ne _ _ _ _ _ (c .before .before .before .before .before .before .before .before .before .if1 .left) (when-ne _ _ _ _ _ (c .before .before .before .before .before .before .before .before .if2 .left) (when-ne _ _ _ _ _ (c .before .before .before .before .before .before .before .if3 .left) (when-ne _ _ _ _ _ (c .before .before .before .before .before .before .if4 .left) (when-ne _ _ _ _ _ (c .before .before .before .before .before .if5 .left) (when-eq _ _ _ _ _ (c .before .before .before .before .if6 .taken) (cc))))))
+returns-6 c = when-ne _ _ _ _ _ (c .before .before .before .before .before .before .before .before .before .if1 .left) (when-ne _ _ _ _ _ (c .before .before .before .before .before .before .before .before .if2 .left) (when-ne _ _ _ _ _ (c .before .before .before .before .before .before .before .if3 .left) (when-ne _ _ _ _ _ (c .before .before .before .before .before .before .if4 .left) (when-ne _ _ _ _ _ (c .before .before .before .before .before .if5 .left) (when-eq _ _ _ _ _ (c .before .before .before .before .if6 .taken) (rw (c .before .intersection .ensures, c .before .before .interval-at10 .ensures, c .before .before .before .interval-at9 .ensures) at (c .of-interval2 .ensures)))))))
 
 float-at-requires-2 : tie.Need-float-at-requires-2
 float-at-requires-2 c κs = search needs
@@ -112,7 +112,7 @@ of-interval-requires-3 c κs = search needs
 
 returns-7 : tie.Need-returns-7
 unfolding intervalOp
-returns-7 c = when-ne _ _ _ _ _ (c .before .before .before .before .before .before .before .before .before .before .if1 .left) (when-ne _ _ _ _ _ (c .before .before .before .before .before .before .before .before .before .if2 .left) (when-ne _ _ _ _ _ (c .before .before .before .before .before .before .before .before .if3 .left) (when-ne _ _ _ _ _ (c .before .before .before .before .before .before .before .if4 .left) (when-ne _ _ _ _ _ (c .before .before .before .before .before .before .if5 .left) (when-ne _ _ _ _ _ (c .before .before .before .before .before .if6 .left) (when-eq _ _ _ _ _ (c .before .before .before .before .if7 .taken) (cc)))))))
+returns-7 c = when-ne _ _ _ _ _ (c .before .before .before .before .before .before .before .before .before .before .if1 .left) (when-ne _ _ _ _ _ (c .before .before .before .before .before .before .before .before .before .if2 .left) (when-ne _ _ _ _ _ (c .before .before .before .before .before .before .before .before .if3 .left) (when-ne _ _ _ _ _ (c .before .before .before .before .before .before .before .if4 .left) (when-ne _ _ _ _ _ (c .before .before .before .before .before .before .if5 .left) (when-ne _ _ _ _ _ (c .before .before .before .before .before .if6 .left) (when-eq _ _ _ _ _ (c .before .before .before .before .if7 .taken) (rw (c .before .from-point-pair .ensures, c .before .before .float-at3 .ensures, c .before .before .before .float-at2 .ensures) at (c .of-interval3 .ensures))))))))
 
 only-requires : tie.Need-only-requires
 only-requires c κs = search needs

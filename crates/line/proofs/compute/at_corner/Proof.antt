@@ -1,5 +1,5 @@
 -- `at_corner` is `atCorner`: a case for each test.
-use Rattle.float.proofs.Choice.{then-is, else-is, when-eq, when-ne}
+use Rattle.float.proofs.Choice.{ask-yes, ask-no, when-eq, when-ne}
 use mathlib.Core.Path.{refl}
 use Rattle.line.specs.Line.{otherAxis, neighbourOver, atCorner}
 use borrow.Author.Needs.{needs}
@@ -26,18 +26,18 @@ unfolding atCorner
 returns c =
     let s = c .before .before .before .before .before .before .before .before .before .before .before .before .args in
     let g = neighbourOver (s .face) (otherAxis (s .axis)) (s .exit) in
-    then-is _ _ _ _ (cc) (when-eq g (s .target) _ _ _ (cc) (cc))
+    ask-yes _ _ _ _ _ (rw (c .before .before .before .before .before .before .before .before .before .before .coordinate .ensures, c .before .before .before .before .before .before .before .before .before .before .before .other-axis .ensures) at (c .before .before .before .before .before .before .before .before .before .is-one .ensures)) (c .before .before .before .before .before .before .before .before .if1 .taken) (when-eq g (s .target) _ _ _ (rw (c .before .before .before .before .before .before .before .neighbour-over .ensures, c .before .before .before .before .before .before .before .before .before .before .before .other-axis .ensures) at (c .before .before .before .before .before .before .if2 .taken)) (c .sum-equal .ensures))
 
 returns-2 : tie.Need-returns-2
 unfolding atCorner
 returns-2 c =
     let s = c .before .before .before .before .before .before .args in
     let g = neighbourOver (s .face) (otherAxis (s .axis)) (s .exit) in
-    then-is _ _ _ _ (cc) (when-ne g (s .target) _ _ _ (λ e. c .if2 .left (cc)) refl)
+    ask-yes _ _ _ _ _ (rw (c .before .before .before .before .coordinate .ensures, c .before .before .before .before .before .other-axis .ensures) at (c .before .before .before .is-one .ensures)) (c .before .before .if1 .taken) (when-ne g (s .target) _ _ _ (rw (c .before .neighbour-over .ensures, c .before .before .before .before .before .other-axis .ensures) at (c .if2 .left)) refl)
 
 returns-3 : tie.Need-returns-3
 unfolding atCorner
-returns-3 c = else-is _ _ _ _ (cc) refl
+returns-3 c = ask-no _ _ _ _ _ (rw (c .before .before .coordinate .ensures, c .before .before .before .other-axis .ensures) at (c .before .is-one .ensures)) (c .if1 .left) refl
 
 pub at-corner-spec : {M : Type 1} → statement M
 at-corner-spec =

@@ -13,7 +13,7 @@ sign-bit-requires-3 : tie.Need-sign-bit-requires-3
 sign-bit-requires-3 c κs = search needs
 
 returns : tie.Need-returns
-returns c = cc
+returns c = rw (c .sign-bit3 .ensures, c .before .sign-bit2 .ensures, c .before .before .sign-bit .ensures)
 
 pub even-signs-spec : {M : Type 1} → statement M
 even-signs-spec =

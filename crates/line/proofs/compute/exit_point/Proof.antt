@@ -25,11 +25,11 @@ other-at-requires-2 c κs = search needs
 
 returns : tie.Need-returns
 unfolding exitPoint
-returns c = on-u _ _ _ _ (cc) (cc)
+returns c = on-u _ _ _ _ (cc) (rw (c .other-at .ensures, c .before .one-if .ensures))
 
 returns-2 : tie.Need-returns-2
 unfolding exitPoint
-returns-2 c = on-v _ _ _ _ (cc) (cc)
+returns-2 c = on-v _ _ _ _ (cc) (rw (c .other-at2 .ensures, c .before .one-if2 .ensures))
 
 pub exit-point-spec : {M : Type 1} → statement M
 exit-point-spec =

@@ -17,11 +17,11 @@ magnitude-requires-3 c κs = search needs
 
 returns : tie.Need-returns
 unfolding meetsFace
-returns c = then-is _ _ _ _ (cc) (cc)
+returns c = then-is _ _ _ _ (rw (c .before .magnitude3 .ensures, c .before .before .magnitude2 .ensures, c .before .before .before .magnitude .ensures) at (c .if1 .taken)) (rw (c .before .magnitude3 .ensures, c .before .before .magnitude2 .ensures, c .before .before .before .magnitude .ensures))
 
 returns-2 : tie.Need-returns-2
 unfolding meetsFace
-returns-2 c = else-is _ _ _ _ (cc) refl
+returns-2 c = else-is _ _ _ _ (rw (c .before .magnitude3 .ensures, c .before .before .magnitude2 .ensures, c .before .before .before .magnitude .ensures) at (c .if1 .left)) refl
 
 pub intersects-face-spec : {M : Type 1} → statement M
 intersects-face-spec =

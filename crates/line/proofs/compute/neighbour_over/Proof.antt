@@ -16,7 +16,7 @@ uvw-face-requires : tie.Need-uvw-face-requires
 uvw-face-requires c κs = search needs
 
 returns : tie.Need-returns
-returns c = cc
+returns c = rw (c .before .direction-of .ensures, c .before .before .coordinate .ensures, c .before .before .before .axis-number .ensures) at (c .uvw-face .ensures)
 
 pub neighbour-over-spec : {M : Type 1} → statement M
 neighbour-over-spec =

@@ -13,7 +13,7 @@ in-order-requires : tie.Need-in-order-requires
 in-order-requires c κs = search needs
 
 returns : tie.Need-returns
-returns c = cc
+returns c = rw (c .before .divisor .ensures, c .before .before .is-finite .ensures) at (c .in-order .ensures)
 
 pub exit-spec : {M : Type 1} → statement M
 exit-spec = tie.close (tie.spec is-finite-requires divisor-requires in-order-requires returns)

@@ -10,7 +10,7 @@ in-order-requires : tie.Need-in-order-requires
 in-order-requires c κs = search needs
 
 returns : tie.Need-returns
-returns c = cc
+returns c = rw (c .before .is-finite .ensures) at (c .in-order .ensures)
 
 pub line-spec : {M : Type 1} → statement M
 line-spec = tie.close (tie.spec is-finite-requires in-order-requires returns)

@@ -22,7 +22,7 @@ in-order-requires : tie.Need-in-order-requires
 in-order-requires c κs = search needs
 
 returns : tie.Need-returns
-returns c = cc
+returns c = rw (c .before .is-zero .ensures, c .before .before .both2 .ensures, c .before .before .before .is-finite .ensures, c .before .before .before .before .both-finite .ensures, c .before .before .before .before .before .both .ensures) at (c .in-order .ensures)
 
 pub next-spec : {M : Type 1} → statement M
 next-spec =
