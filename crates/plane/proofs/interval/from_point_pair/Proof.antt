@@ -18,7 +18,7 @@ answer-requires c κs = search needs
 
 returns : tie.Need-returns
 unfolding finiteInterval
-returns c = cc
+returns c = rw (c .before .from-point-pair .ensures, c .before .before .need-finite .ensures, c .before .before .before .is-finite .ensures) at (c .answer .ensures)
 
 pub from-point-pair-spec : {M : Type 1} → statement M
 from-point-pair-spec =

@@ -15,7 +15,7 @@ answer-requires c κs = search needs
 
 returns : tie.Need-returns
 unfolding finitePoint
-returns c = cc
+returns c = rw (c .before .need-finite .ensures, c .before .before .is-finite .ensures) at (c .answer .ensures)
 
 pub new-spec : {M : Type 1} → statement M
 new-spec = tie.close (tie.spec is-finite-requires need-finite-requires answer-requires returns)

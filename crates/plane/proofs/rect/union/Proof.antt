@@ -22,7 +22,7 @@ answer-requires : tie.Need-answer-requires
 answer-requires c κs = search needs
 
 returns : tie.Need-returns
-returns c = cc
+returns c = rw (c .before .union .ensures, c .before .before .need-finite .ensures, c .before .before .before .both .ensures, c .before .before .before .before .is-finite2 .ensures, c .before .before .before .before .before .is-finite .ensures) at (c .answer .ensures)
 
 pub union-spec : {M : Type 1} → statement M
 union-spec =

@@ -12,7 +12,7 @@ max-requires c κs = search needs
 
 returns : tie.Need-returns
 unfolding between
-returns c = cc
+returns c = rw (c .max .ensures, c .before .min .ensures)
 
 pub from-point-pair-spec : {M : Type 1} → statement M
 from-point-pair-spec = tie.close (tie.spec min-requires max-requires returns)

@@ -12,7 +12,7 @@ min-requires c κs = search needs
 
 returns : tie.Need-returns
 unfolding intersectionOf
-returns c = cc
+returns c = rw (c .min .ensures, c .before .max .ensures)
 
 pub intersection-spec : {M : Type 1} → statement M
 intersection-spec = tie.close (tie.spec max-requires min-requires returns)

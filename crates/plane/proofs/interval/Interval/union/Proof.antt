@@ -1,5 +1,5 @@
 -- `Interval::union` is `unionOf`.
-use Rattle.float.proofs.Choice.{then-is, else-is}
+use Rattle.float.proofs.Choice.{ask-yes, ask-no}
 use mathlib.Core.Path.{refl}
 use Rattle.plane.specs.Interval.{unionOf}
 use borrow.Author.Needs.{needs}
@@ -11,14 +11,14 @@ is-empty-requires c κs = search needs
 
 returns : tie.Need-returns
 unfolding unionOf
-returns c = then-is _ _ _ _ (cc) refl
+returns c = ask-yes _ _ _ _ _ (c .before .is-empty .ensures) (c .if1 .taken) refl
 
 is-empty-requires-2 : tie.Need-is-empty-requires-2
 is-empty-requires-2 c κs = search needs
 
 returns-2 : tie.Need-returns-2
 unfolding unionOf
-returns-2 c = else-is _ _ _ _ (cc) (then-is _ _ _ _ (cc) refl)
+returns-2 c = ask-no _ _ _ _ _ (c .before .before .before .is-empty .ensures) (c .before .before .if1 .left) (ask-yes _ _ _ _ _ (c .before .is-empty2 .ensures) (c .if2 .taken) refl)
 
 min-requires : tie.Need-min-requires
 min-requires c κs = search needs
@@ -28,7 +28,7 @@ max-requires c κs = search needs
 
 returns-3 : tie.Need-returns-3
 unfolding unionOf
-returns-3 c = else-is _ _ _ _ (cc) (else-is _ _ _ _ (cc) (cc))
+returns-3 c = ask-no _ _ _ _ _ (c .before .before .before .before .before .is-empty .ensures) (c .before .before .before .before .if1 .left) (ask-no _ _ _ _ _ (c .before .before .before .is-empty2 .ensures) (c .before .before .if2 .left) (rw (c .max .ensures, c .before .min .ensures)))
 
 pub union-spec : {M : Type 1} → statement M
 union-spec =

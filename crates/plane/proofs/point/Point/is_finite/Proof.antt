@@ -15,7 +15,7 @@ both-requires c κs = search needs
 
 returns : tie.Need-returns
 unfolding finitePoint
-returns c = cc
+returns c = rw (c .before .is-finite2 .ensures, c .before .before .is-finite .ensures) at (c .both .ensures)
 
 pub is-finite-spec : {M : Type 1} → statement M
 is-finite-spec = tie.close (tie.spec is-finite-requires is-finite-requires-2 both-requires returns)

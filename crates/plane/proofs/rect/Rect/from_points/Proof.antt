@@ -10,7 +10,7 @@ from-point-pair-requires-2 : tie.Need-from-point-pair-requires-2
 from-point-pair-requires-2 c κs = search needs
 
 returns : tie.Need-returns
-returns c = cc
+returns c = rw (c .from-point-pair2 .ensures, c .before .from-point-pair .ensures)
 
 pub from-points-spec : {M : Type 1} → statement M
 from-points-spec = tie.close (tie.spec from-point-pair-requires from-point-pair-requires-2 returns)

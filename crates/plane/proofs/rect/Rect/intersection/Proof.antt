@@ -13,7 +13,7 @@ or-empty-requires : tie.Need-or-empty-requires
 or-empty-requires c κs = search needs
 
 returns : tie.Need-returns
-returns c = cc
+returns c = rw (c .before .intersection2 .ensures, c .before .before .intersection .ensures) at (c .or-empty .ensures)
 
 pub intersection-spec : {M : Type 1} → statement M
 intersection-spec =

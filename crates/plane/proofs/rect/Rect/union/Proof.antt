@@ -10,7 +10,7 @@ union-requires-2 : tie.Need-union-requires-2
 union-requires-2 c κs = search needs
 
 returns : tie.Need-returns
-returns c = cc
+returns c = rw (c .union2 .ensures, c .before .union .ensures)
 
 pub union-spec : {M : Type 1} → statement M
 union-spec = tie.close (tie.spec union-requires union-requires-2 returns)

@@ -10,7 +10,7 @@ at-end-requires-2 : tie.Need-at-end-requires-2
 at-end-requires-2 c κs = search needs
 
 returns : tie.Need-returns
-returns c = cc
+returns c = rw (c .at-end2 .ensures, c .before .at-end .ensures)
 
 pub vertex-spec : {M : Type 1} → statement M
 vertex-spec = tie.close (tie.spec at-end-requires at-end-requires-2 returns)
