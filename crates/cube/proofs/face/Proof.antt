@@ -13,7 +13,7 @@ answer-requires : tie.Need-answer-requires
 answer-requires c κs = search needs
 
 returns : tie.Need-returns
-returns c = cc
+returns c = rw (c .before .face .ensures, c .before .before .vector .ensures) at (c .answer .ensures)
 
 pub face-spec : {M : Type 1} → statement M
 face-spec = tie.close (tie.spec vector-requires face-requires answer-requires returns)

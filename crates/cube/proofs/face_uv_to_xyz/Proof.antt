@@ -16,7 +16,7 @@ answer-requires : tie.Need-answer-requires
 answer-requires c κs = search needs
 
 returns : tie.Need-returns
-returns c = cc
+returns c = rw (c .before .face-uv-to-xyz .ensures, c .before .before .face .ensures, c .before .before .before .both-finite .ensures) at (c .answer .ensures)
 
 pub face-uv-to-xyz-spec : {M : Type 1} → statement M
 face-uv-to-xyz-spec =

@@ -13,7 +13,7 @@ answer-requires : tie.Need-answer-requires
 answer-requires c κs = search needs
 
 returns : tie.Need-returns
-returns c = cc
+returns c = rw (c .before .valid-face-xyz-to-uv .ensures, c .before .before .side .ensures) at (c .answer .ensures)
 
 pub face-xyz-to-uv-spec : {M : Type 1} → statement M
 face-xyz-to-uv-spec =

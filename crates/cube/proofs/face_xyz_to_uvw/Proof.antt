@@ -16,7 +16,7 @@ answer-requires : tie.Need-answer-requires
 answer-requires c κs = search needs
 
 returns : tie.Need-returns
-returns c = cc
+returns c = rw (c .before .face-xyz-to-uvw .ensures, c .before .before .face .ensures, c .before .before .before .is-finite .ensures) at (c .answer .ensures)
 
 pub face-xyz-to-uvw-spec : {M : Type 1} → statement M
 face-xyz-to-uvw-spec =

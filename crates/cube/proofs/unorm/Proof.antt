@@ -16,7 +16,7 @@ answer-requires : tie.Need-answer-requires
 answer-requires c κs = search needs
 
 returns : tie.Need-returns
-returns c = cc
+returns c = rw (c .before .unorm .ensures, c .before .before .face .ensures, c .before .before .before .is-finite .ensures) at (c .answer .ensures)
 
 pub unorm-spec : {M : Type 1} → statement M
 unorm-spec =

@@ -13,7 +13,7 @@ answer-requires : tie.Need-answer-requires
 answer-requires c κs = search needs
 
 returns : tie.Need-returns
-returns c = cc
+returns c = rw (c .before .uvw-face .ensures, c .before .before .neighbour .ensures) at (c .answer .ensures)
 
 pub uvw-face-spec : {M : Type 1} → statement M
 uvw-face-spec = tie.close (tie.spec neighbour-requires uvw-face-requires answer-requires returns)

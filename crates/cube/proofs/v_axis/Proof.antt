@@ -13,7 +13,7 @@ answer-requires : tie.Need-answer-requires
 answer-requires c κs = search needs
 
 returns : tie.Need-returns
-returns c = cc
+returns c = rw (c .before .v-axis .ensures, c .before .before .face .ensures) at (c .answer .ensures)
 
 pub v-axis-spec : {M : Type 1} → statement M
 v-axis-spec = tie.close (tie.spec face-requires v-axis-requires answer-requires returns)

@@ -16,7 +16,7 @@ answer-requires : tie.Need-answer-requires
 answer-requires c κs = search needs
 
 returns : tie.Need-returns
-returns c = cc
+returns c = rw (c .before .valid-face-xyz-to-uv .ensures, c .before .before .vector .ensures, c .before .before .before .face .ensures) at (c .answer .ensures)
 
 pub xyz-to-face-uv-spec : {M : Type 1} → statement M
 xyz-to-face-uv-spec =

@@ -22,11 +22,11 @@ add-result c = record { fits = rw (c .before .before .greater2 .ensures, c .befo
 
 returns : tie.Need-returns
 unfolding faceOf
-returns c = then-is _ _ _ _ (cc) (cc)
+returns c = then-is _ _ _ _ (rw (c .before .along .ensures, c .before .before .greater2 .ensures, c .before .before .before .greater .ensures) at (c .if1 .taken)) (rw (c .before .before .greater2 .ensures, c .before .before .before .greater .ensures))
 
 returns-2 : tie.Need-returns-2
 unfolding faceOf
-returns-2 c = else-is _ _ _ _ (cc) (cc)
+returns-2 c = else-is _ _ _ _ (rw (c .before .along .ensures, c .before .before .greater2 .ensures, c .before .before .before .greater .ensures) at (c .if1 .left)) (rw (c .before .before .greater2 .ensures, c .before .before .before .greater .ensures))
 
 pub face-spec : {M : Type 1} → statement M
 face-spec =

@@ -13,7 +13,7 @@ both-requires : tie.Need-both-requires
 both-requires c κs = search needs
 
 returns : tie.Need-returns
-returns c = cc
+returns c = rw (c .before .is-finite2 .ensures, c .before .before .is-finite .ensures) at (c .both .ensures)
 
 pub both-finite-spec : {M : Type 1} → statement M
 both-finite-spec =

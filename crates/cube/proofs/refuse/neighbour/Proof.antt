@@ -13,7 +13,7 @@ in-order-requires : tie.Need-in-order-requires
 in-order-requires c κs = search needs
 
 returns : tie.Need-returns
-returns c = cc
+returns c = rw (c .before .both2 .ensures, c .before .before .both .ensures) at (c .in-order .ensures)
 
 pub neighbour-spec : {M : Type 1} → statement M
 neighbour-spec = tie.close (tie.spec both-requires both-requires-2 in-order-requires returns)

@@ -16,7 +16,7 @@ in-order-requires : tie.Need-in-order-requires
 in-order-requires c κs = search needs
 
 returns : tie.Need-returns
-returns c = cc
+returns c = rw (c .before .side-number .ensures, c .before .before .along .ensures, c .before .before .before .is-finite .ensures) at (c .in-order .ensures)
 
 pub side-spec : {M : Type 1} → statement M
 side-spec =

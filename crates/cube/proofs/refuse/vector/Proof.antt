@@ -13,7 +13,7 @@ in-order-requires : tie.Need-in-order-requires
 in-order-requires c κs = search needs
 
 returns : tie.Need-returns
-returns c = cc
+returns c = rw (c .before .is-zero .ensures, c .before .before .is-finite .ensures) at (c .in-order .ensures)
 
 pub vector-spec : {M : Type 1} → statement M
 vector-spec = tie.close (tie.spec is-finite-requires is-zero-requires in-order-requires returns)

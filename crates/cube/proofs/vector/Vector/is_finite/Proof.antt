@@ -21,7 +21,7 @@ both-requires-2 c κs = search needs
 
 returns : tie.Need-returns
 unfolding finiteVector
-returns c = cc
+returns c = rw (c .before .is-finite3 .ensures, c .before .before .both .ensures, c .before .before .before .is-finite2 .ensures, c .before .before .before .before .is-finite .ensures) at (c .both2 .ensures)
 
 pub is-finite-spec : {M : Type 1} → statement M
 is-finite-spec =

@@ -12,7 +12,7 @@ both-requires-2 c κs = search needs
 
 returns : tie.Need-returns
 unfolding isZero
-returns c = cc
+returns c = rw (c .before .both .ensures) at (c .both2 .ensures)
 
 pub is-zero-spec : {M : Type 1} → statement M
 is-zero-spec = tie.close (tie.spec both-requires both-requires-2 returns)
