@@ -33,7 +33,7 @@ new-requires c κs = search needs
 
 returns : tie.Need-returns
 unfolding fourReply
-returns c = cc
+returns c = rw (c .before .to-bits8 .ensures, c .before .before .to-bits7 .ensures, c .before .before .before .to-bits6 .ensures, c .before .before .before .before .to-bits5 .ensures, c .before .before .before .before .before .to-bits4 .ensures, c .before .before .before .before .before .before .to-bits3 .ensures, c .before .before .before .before .before .before .before .to-bits2 .ensures, c .before .before .before .before .before .before .before .before .to-bits .ensures) at (c .new .ensures)
 
 pub four-points-spec : {M : Type 1} → statement M
 four-points-spec =

@@ -12,7 +12,7 @@ new-requires c κs = search needs
 
 returns : tie.Need-returns
 unfolding axisReply
-returns c = cc
+returns c = rw (c .before .axis-word .ensures) at (c .new .ensures)
 
 pub of-axis-spec : {M : Type 1} → statement M
 of-axis-spec = tie.close (tie.spec axis-word-requires new-requires returns)

@@ -12,7 +12,7 @@ new-requires c κs = search needs
 
 returns : tie.Need-returns
 unfolding faceReply
-returns c = cc
+returns c = rw (c .before .wide .ensures) at (c .new .ensures)
 
 pub of-face-spec : {M : Type 1} → statement M
 of-face-spec = tie.close (tie.spec wide-requires new-requires returns)

@@ -18,7 +18,7 @@ new-requires c κs = search needs
 
 returns : tie.Need-returns
 unfolding faceUvReply
-returns c = cc
+returns c = rw (c .before .to-bits2 .ensures, c .before .before .to-bits .ensures, c .before .before .before .wide .ensures) at (c .new .ensures)
 
 pub of-face-uv-spec : {M : Type 1} → statement M
 of-face-uv-spec =

@@ -12,7 +12,7 @@ new-requires c κs = search needs
 
 returns : tie.Need-returns
 unfolding floatReply
-returns c = cc
+returns c = rw (c .before .to-bits .ensures) at (c .new .ensures)
 
 pub of-float-spec : {M : Type 1} → statement M
 of-float-spec = tie.close (tie.spec to-bits-requires new-requires returns)

@@ -21,7 +21,7 @@ new-requires c κs = search needs
 
 returns : tie.Need-returns
 unfolding pointsReply
-returns c = cc
+returns c = rw (c .before .to-bits4 .ensures, c .before .before .to-bits3 .ensures, c .before .before .before .to-bits2 .ensures, c .before .before .before .before .to-bits .ensures) at (c .new .ensures)
 
 pub of-points-spec : {M : Type 1} → statement M
 of-points-spec =

@@ -15,7 +15,7 @@ new-requires c κs = search needs
 
 returns : tie.Need-returns
 unfolding uvReply
-returns c = cc
+returns c = rw (c .before .to-bits2 .ensures, c .before .before .to-bits .ensures) at (c .new .ensures)
 
 pub of-uv-spec : {M : Type 1} → statement M
 of-uv-spec = tie.close (tie.spec to-bits-requires to-bits-requires-2 new-requires returns)

@@ -18,7 +18,7 @@ new-requires c κs = search needs
 
 returns : tie.Need-returns
 unfolding vectorReply
-returns c = cc
+returns c = rw (c .before .to-bits3 .ensures, c .before .before .to-bits2 .ensures, c .before .before .before .to-bits .ensures) at (c .new .ensures)
 
 pub of-vector-spec : {M : Type 1} → statement M
 of-vector-spec =

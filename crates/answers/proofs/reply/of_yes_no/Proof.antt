@@ -12,7 +12,7 @@ new-requires c κs = search needs
 
 returns : tie.Need-returns
 unfolding yesNoReply
-returns c = cc
+returns c = rw (c .before .yes-word .ensures) at (c .new .ensures)
 
 pub of-yes-no-spec : {M : Type 1} → statement M
 of-yes-no-spec = tie.close (tie.spec yes-word-requires new-requires returns)

@@ -12,7 +12,7 @@ from-bits-requires c κs = search needs
 
 returns : tie.Need-returns
 unfolding floatAt
-returns c = cc
+returns c = rw (c .before .word .ensures) at (c .from-bits .ensures)
 
 pub float-at-spec : {M : Type 1} → statement M
 float-at-spec = tie.close (tie.spec word-requires from-bits-requires returns)

@@ -15,7 +15,7 @@ float-at-requires-2 c κs = search needs
 
 returns : tie.Need-returns
 unfolding intervalAt
-returns c = cc
+returns c = rw (c .float-at2 .ensures, c .before .float-at .ensures)
 
 pub interval-at-spec : {M : Type 1} → statement M
 interval-at-spec = tie.close (tie.spec float-at-requires add-float-at float-at-requires-2 returns)

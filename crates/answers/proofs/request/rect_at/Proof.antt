@@ -15,7 +15,7 @@ point-at-requires-2 c κs = search needs
 
 returns : tie.Need-returns
 unfolding rectAt
-returns c = cc
+returns c = rw (c .point-at2 .ensures, c .before .point-at .ensures)
 
 pub rect-at-spec : {M : Type 1} → statement M
 rect-at-spec = tie.close (tie.spec point-at-requires add-point-at point-at-requires-2 returns)

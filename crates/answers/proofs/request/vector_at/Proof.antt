@@ -21,7 +21,7 @@ float-at-requires-3 c κs = search needs
 
 returns : tie.Need-returns
 unfolding vectorAt
-returns c = cc
+returns c = rw (c .float-at3 .ensures, c .before .float-at2 .ensures, c .before .before .float-at .ensures)
 
 pub vector-at-spec : {M : Type 1} → statement M
 vector-at-spec =
