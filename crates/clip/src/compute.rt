@@ -1,6 +1,8 @@
 // What the entries compute: any float goes in, NaN and infinities too, and nothing is refused.
 ghost use mathlib.Core.Path.{_≡_};
-ghost use Rattle.clip.specs.Cut.{valueAt, inward, withEnd, movedEnd, sideCut, axisCut, negativeSlope, afterX, otherMoved, boxCut, offLine, crossed, edgeMeets};
+ghost use mathlib.Core.Bool.{false};
+ghost use Rattle.float.specs.Choice.{when_then_else_};
+ghost use Rattle.clip.specs.Cut.{valueAt, inward, withEnd, movedEnd, sideCut, axisCut, sidesCut, negativeSlope, otherMoved, offLine, crossed, edgeMeets};
 use plane::Interval;
 use plane::Point;
 use plane::Rect;
@@ -28,34 +30,71 @@ pub enum BoxCut {
     Outside,
 }
 
-// Axis x first, then axis y on what x left.
-pub fn clip_edge_bound(a: Point, b: Point, clip: Rect, bound: Rect) -> BoxCut
-    ensures { λ r. ⌜ r ≡ boxCut a b clip bound ⌝ }
+// How many sides of the window there are to cut at.
+pub const BOTH_AXES: u8 = 4;
+
+const ONE_AXIS: u8 = 2;
+
+// The sides of the window in turn, as many as asked for: low and high on axis x, then on axis y. Of the bound of the line
+// from a to b, what is left.
+//
+// It has this shape for the compiler. With the number unknown the loop is small enough to be taken into every caller, and
+// there, where the number is a constant, it is unrolled, the axes and sides become constants too, and no interval goes
+// through memory. A function between that fixes the number would be unrolled itself, grow past what is taken in, and stay
+// a call, which costs a random edge a third more (docs/DECISIONS.md).
+pub fn cut_sides(sides: u8, a: Point, b: Point, neg_slope: bool, clip: Rect, bound: Rect) -> BoxCut
+    ensures { λ r. ⌜ r ≡ sidesCut sides false false a b «neg_slope» clip (bound .x) (bound .y) ⌝ }
 {
-    let neg_slope = slope_is_negative(a, b);
-    match clip_bound_axis(a.x, b.x, bound.x, a.y, b.y, bound.y, neg_slope, clip.x) {
-        AxisCut::Left(s) => clip_y(a, b, neg_slope, clip.y, s),
-        AxisCut::Gone => BoxCut::Outside,
+    let mut x = bound.x;
+    let mut y = bound.y;
+    let mut on_y = false;
+    let mut high = false;
+    let mut left = sides;
+    while 0 < left {
+        match clip_side(
+            high,
+            first(on_y, a.x, a.y),
+            first(on_y, b.x, b.y),
+            first_of(on_y, x, y),
+            first(on_y, a.y, a.x),
+            first(on_y, b.y, b.x),
+            first_of(on_y, y, x),
+            neg_slope,
+            first_of(on_y, clip.x, clip.y),
+        ) {
+            AxisCut::Left(s) => {
+                x = first_of(on_y, s.this, s.other);
+                y = first_of(on_y, s.other, s.this);
+            }
+            AxisCut::Gone => return BoxCut::Outside,
+        }
+        on_y = high != on_y;
+        high = !high;
+        left -= 1;
     }
+    BoxCut::Inside(Rect { x, y })
+}
+
+// Of two coordinates, or two intervals, the first, or the second where they change places.
+fn first(exchanged: bool, p: f64, q: f64) -> f64
+    ensures { λ r. ⌜ r ≡ (when exchanged then q else p) ⌝ }
+{
+    if exchanged { q } else { p }
+}
+
+fn first_of(exchanged: bool, p: Interval, q: Interval) -> Interval
+    ensures { λ r. ⌜ r ≡ (when exchanged then q else p) ⌝ }
+{
+    if exchanged {
+        return q;
+    }
+    p
 }
 
 pub fn slope_is_negative(a: Point, b: Point) -> bool
     ensures { λ r. ⌜ r ≡ negativeSlope a b ⌝ }
 {
     (b.x < a.x) != (b.y < a.y)
-}
-
-fn clip_y(a: Point, b: Point, neg_slope: bool, clip: Interval, s: Both) -> BoxCut
-    ensures { λ r. ⌜ r ≡ afterX a b «neg_slope» clip s ⌝ }
-{
-    match clip_bound_axis(a.y, b.y, s.other, a.x, b.x, s.this, neg_slope, clip) {
-        AxisCut::Left(t) => {
-            let x = t.other;
-            let y = t.this;
-            BoxCut::Inside(Rect { x, y })
-        }
-        AxisCut::Gone => BoxCut::Outside,
-    }
 }
 
 // One axis of the line from (a0, a1) to (b0, b1): the low side of the window, then the high side of
@@ -72,9 +111,20 @@ pub fn clip_bound_axis(
 ) -> AxisCut
     ensures { λ r. ⌜ r ≡ axisCut a0 b0 bound0 a1 b1 bound1 «neg_slope» clip ⌝ }
 {
-    match clip_side(false, a0, b0, bound0, a1, b1, bound1, neg_slope, clip) {
-        AxisCut::Left(s) => clip_side(true, a0, b0, s.this, a1, b1, s.other, neg_slope, clip),
-        AxisCut::Gone => AxisCut::Gone,
+    let a = Point { x: a0, y: a1 };
+    let b = Point { x: b0, y: b1 };
+    let window = Rect { x: clip, y: clip };
+    let bound = Rect {
+        x: bound0,
+        y: bound1,
+    };
+    match cut_sides(ONE_AXIS, a, b, neg_slope, window, bound) {
+        BoxCut::Inside(r) => {
+            let this = r.x;
+            let other = r.y;
+            AxisCut::Left(Both { this, other })
+        }
+        BoxCut::Outside => AxisCut::Gone,
     }
 }
 
