@@ -1,7 +1,12 @@
 //! Finds the crate's sources, so that the compiler reads them where they are: this repository holds no copy.
 
 use std::path::{Path, PathBuf};
-use std::{env, fs, process};
+use std::process::{self, Command};
+use std::{env, fs};
+
+/// What `sha256sum` gives for each file of s2 0.2.0 that is compiled here. From the folder of either package that this
+/// program is for.
+const CHECKSUMS: &str = "../oracle/s2-0.2.0.sha256";
 
 /// The file whose private functions are asked, so that it needs a child module of ours.
 const EDGE_CLIPPING: &str = "s2/edge_clipping.rs";
@@ -32,17 +37,21 @@ fn main() {
         declare_module(file, &find(&sources, file));
     }
     let edge_clipping = find(&sources, EDGE_CLIPPING);
+    check_sources(&sources);
     println!("cargo:rustc-env=EDGE_CLIPPING={}", text(&edge_clipping));
     cut_out_walk(&edge_clipping);
 }
 
 /// The folder `src` of the crate. A relative S2_SRC is taken from this package's folder, where cargo runs this program.
 fn find_sources() -> PathBuf {
-    let package = PathBuf::from(env::var_os("CARGO_MANIFEST_DIR").expect("cargo sets it"));
     let named = env::var_os("S2_SRC").filter(|named| !named.is_empty());
     let named = named.unwrap_or_else(|| "../../shared/docs/src".into());
-    let sources = package.join(named).join("src");
+    let sources = package().join(named).join("src");
     sources.canonicalize().unwrap_or(sources)
+}
+
+fn package() -> PathBuf {
+    PathBuf::from(env::var_os("CARGO_MANIFEST_DIR").expect("cargo sets it"))
 }
 
 fn find(sources: &Path, file: &str) -> PathBuf {
@@ -55,6 +64,31 @@ fn find(sources: &Path, file: &str) -> PathBuf {
     }
     println!("cargo:rerun-if-changed={}", path.display());
     path
+}
+
+/// Stops where a file that is compiled is not, to the byte, the one of s2 0.2.0. All of them were found.
+fn check_sources(sources: &Path) {
+    let list = package().join(CHECKSUMS);
+    println!("cargo:rerun-if-changed={}", list.display());
+    let listed = fs::read_to_string(&list).unwrap_or_else(|error| give_up(&format!("{}: {error}", list.display())));
+    for file in MODULES.into_iter().chain([EDGE_CLIPPING]) {
+        if !listed.lines().any(|line| line.ends_with(&format!("  {file}"))) {
+            give_up(&format!("{} has no checksum of {file}.", list.display()));
+        }
+    }
+    let mut checked = Command::new("sha256sum");
+    checked.args(["--check", "--strict", "--quiet"]).arg(&list).current_dir(sources);
+    match checked.output() {
+        Ok(said) if said.status.success() => {}
+        Ok(said) => give_up(&format!(
+            "{}{}{} is not the crate s2 0.2.0: its files have other checksums than {}.",
+            String::from_utf8_lossy(&said.stdout),
+            String::from_utf8_lossy(&said.stderr),
+            sources.display(),
+            list.display()
+        )),
+        Err(error) => give_up(&format!("sha256sum cannot be run: {error}.")),
+    }
 }
 
 /// Writes the line that makes a module of a file where it stands. A path in such a line has to be spelled out, so it
