@@ -18,22 +18,26 @@ mod walked;
 
 use libc::STDIN_FILENO;
 use libc::STDOUT_FILENO;
+use stream::Run;
 
-// Reads up to 341 requests and writes their lines; whether there may be more.
-fn answer_block() -> bool {
+// Reads up to 341 requests and writes their lines.
+fn answer_block(run: Run) -> Run {
     let mut requests = [0u8; 65472];
-    let n = io::read_full(STDIN_FILENO, &mut requests);
+    let got = stream::read_full(STDIN_FILENO, &mut requests);
+    let n = got.answered(192);
     let mut text = [0u8; 297695];
     let k = text::put_text(&requests[..n], &mut text);
-    if !io::write_all(STDOUT_FILENO, &text[..k]) {
-        return false;
-    }
-    n == 65472
+    let taken = stream::write_all(STDOUT_FILENO, &text[..k]);
+    let whole = stream::whole_lines(&text[..k], taken, n / 192);
+    run.with(whole, got.failed, taken < k, got.bytes == 65472)
 }
 
 fn main() {
+    let mut run = Run::new();
     let mut blocks = u64::MAX;
-    while blocks > 0 && answer_block() {
+    while blocks > 0 && run.more {
+        run = answer_block(run);
         blocks -= 1;
     }
+    run.end(b"answers");
 }

@@ -49,7 +49,7 @@ module _ (carried : Bool) (fs : List Float) where
   pub own-none : carried ≡ false → length fs < 2 → [] ≡ ownFloats carried fs
   own-none e h = let l : length fs ≤ 2 = omega arith in sym (drop-of-length-le fs l) ∙ after-two e
 
-abbrev CutOf : Rect → List ℕ → List ℕ → TraceAnswer → List Float → Type 0
+abbrev pub CutOf : Rect → List ℕ → List ℕ → TraceAnswer → List Float → Type 0
 CutOf w xs ys a gs = (a ≡ answerOf gs w (length xs)) × ((ys ≡ bufferAfter xs gs w) × (a .edges * 40 ≤ length xs))
 
 -- what holds of the floats that were cut holds of the piece

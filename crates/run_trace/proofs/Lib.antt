@@ -2,4 +2,5 @@
 pub mod Reading
 pub mod Cutting
 pub mod Pieces
+pub mod Filled
 pub mod Promises

@@ -18,7 +18,7 @@ use Rattle.trace.specs.Trace.{traceCuts}
 use Rattle.trace.specs.Promises.{Joined}
 use Rattle.trace.proofs.Joins.{joins}
 use Rattle.run_trace.specs.Samples.{floatAt, floatsIn, floatsFrom, floatsOf, floatsInto, lastSample}
-use Rattle.run_trace.specs.Promises.{after}
+use Rattle.run_trace.specs.Pieces.{after}
 use Rattle.run_trace.proofs.Cutting.{last-is}
 
 -- ---- floats of joined bytes

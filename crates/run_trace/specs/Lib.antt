@@ -1,3 +1,4 @@
 -- What the program reads: a window, and then samples.
 pub mod Samples
+pub mod Pieces
 pub mod Promises

@@ -2,18 +2,14 @@
 use Prim.Native.Nat.{ℕ, _+_, _%_, _≤_}
 use mathlib.Core.Path.{_≡_}
 use mathlib.Core.Bool.{true}
-use mathlib.Core.List.{List, _∷_, _++_}
+use mathlib.Core.List.{List, _++_}
 use lib.Ieee.{Float}
 use lib.ListN.{length, take}
-use Rattle.plane.specs.declared.point.Point.{Point}
 use Rattle.plane.specs.declared.rect.Rect.{Rect}
 use Rattle.trace.specs.Trace.{traceCuts}
 use Rattle.trace.specs.Promises.{Joined}
 use Rattle.run_trace.specs.Samples.{floatsIn, floatsOf, floatsInto, lastSample}
-
--- the sample that is carried over, then the floats of the piece
-abbrev pub after : Point → List Float → List Float
-after p fs = p .x ∷ p .y ∷ fs
+use Rattle.run_trace.specs.Pieces.{after}
 
 pub record Promises : Type 0 where
   -- what is cut of a buffer that bytes were read into: the floats that stood in its first two places, then those of the bytes

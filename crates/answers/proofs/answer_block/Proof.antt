@@ -1,6 +1,6 @@
--- `answer_block` is safe: what it writes is a part of its buffer.
-use lib.ListN.{length-take}
+-- `answer_block` is safe: what it lends is a part of its buffers.
 use native.Mathlib.Omega.{arith}
+use lib.ListN.{length-take}
 use borrow.Author.Needs.{needs}
 use Rattle.answers.proofs.answer_block.Statement.{statement}
 use Rattle.answers.proofs.answer_block.Tie as tie
@@ -11,11 +11,14 @@ slice-aggregate-read-full c = search needs
 read-full-requires : tie.Need-read-full-requires
 read-full-requires c κs = search needs
 
+answered-requires : tie.Need-answered-requires
+answered-requires c κs = search needs
+
 array-share-prefix-requests : tie.Need-array-share-prefix-requests
 array-share-prefix-requests c = search needs
 
 slice-aggregate-put-text : tie.Need-slice-aggregate-put-text
-slice-aggregate-put-text c = search needs
+slice-aggregate-put-text c = simp length-take (omega arith)
 
 slice-aggregate-put-text-2 : tie.Need-slice-aggregate-put-text-2
 slice-aggregate-put-text-2 c = search needs
@@ -32,11 +35,20 @@ slice-aggregate-write-all c = simp length-take (omega arith)
 write-all-requires : tie.Need-write-all-requires
 write-all-requires c κs = search needs
 
+array-share-prefix-text-2 : tie.Need-array-share-prefix-text-2
+array-share-prefix-text-2 c = search needs
+
+slice-aggregate-whole-lines : tie.Need-slice-aggregate-whole-lines
+slice-aggregate-whole-lines c = simp length-take (omega arith)
+
+whole-lines-requires : tie.Need-whole-lines-requires
+whole-lines-requires c κs = search needs
+
+with-requires : tie.Need-with-requires
+with-requires c κs = search needs
+
 returns : tie.Need-returns
 returns c = search needs
-
-returns-2 : tie.Need-returns-2
-returns-2 c = search needs
 
 pub answer-block-spec : {M : Type 1} → statement M
 answer-block-spec =
@@ -44,6 +56,7 @@ answer-block-spec =
     (tie.spec
     slice-aggregate-read-full
     read-full-requires
+    answered-requires
     array-share-prefix-requests
     slice-aggregate-put-text
     slice-aggregate-put-text-2
@@ -51,5 +64,8 @@ answer-block-spec =
     array-share-prefix-text
     slice-aggregate-write-all
     write-all-requires
-    returns
-    returns-2)
+    array-share-prefix-text-2
+    slice-aggregate-whole-lines
+    whole-lines-requires
+    with-requires
+    returns)

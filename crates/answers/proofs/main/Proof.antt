@@ -1,13 +1,17 @@
 -- `main` ends: it counts its blocks down.
 use native.Mathlib.Omega.{arith}
+use borrow.Author.Needs.{needs}
 use Rattle.answers.proofs.main.Statement.{statement}
 use Rattle.answers.proofs.main.Tie as tie
 
 abbrev Inv-loop : tie.InvT-loop
-Inv-loop blocks₀ blocks = Unit {0}
+Inv-loop run₀ blocks₀ t3 run blocks = Unit {0}
 
 abbrev μ-loop : tie.MeasureT-loop
-μ-loop blocks₀ blocks = blocks
+μ-loop run₀ blocks₀ t3 run blocks = blocks
+
+new-requires : tie.Need-new-requires Inv-loop μ-loop
+new-requires c κs = tt
 
 loop-holds : tie.Need-loop-holds Inv-loop μ-loop
 loop-holds c = tt
@@ -24,11 +28,14 @@ loop-less c = omega arith
 loop-again : tie.Need-loop-again Inv-loop μ-loop
 loop-again c = tt
 
+slice-aggregate-end : tie.Need-slice-aggregate-end Inv-loop μ-loop
+slice-aggregate-end c = search needs
+
+end-requires : tie.Need-end-requires Inv-loop μ-loop
+end-requires c κs = tt
+
 returns : tie.Need-returns Inv-loop μ-loop
 returns c = tt
-
-returns-2 : tie.Need-returns-2 Inv-loop μ-loop
-returns-2 c = tt
 
 pub main-spec : {M : Type 1} → statement M
 main-spec =
@@ -36,10 +43,12 @@ main-spec =
     (tie.spec
     Inv-loop
     μ-loop
+    new-requires
     loop-holds
     answer-block-requires
     sub-blocks
     loop-less
     loop-again
-    returns
-    returns-2)
+    slice-aggregate-end
+    end-requires
+    returns)

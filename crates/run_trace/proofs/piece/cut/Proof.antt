@@ -2,8 +2,8 @@
 use lib.ListN.{length}
 use Rattle.run_trace.proofs.Cutting.{within}
 use borrow.Author.Needs.{needs}
-use Rattle.run_trace.proofs.cut.Statement.{statement}
-use Rattle.run_trace.proofs.cut.Tie as tie
+use Rattle.run_trace.proofs.piece.cut.Statement.{statement}
+use Rattle.run_trace.proofs.piece.cut.Tie as tie
 
 cut-trace-requires : tie.Need-cut-trace-requires
 cut-trace-requires c κs = search needs

@@ -1,8 +1,8 @@
 -- `cut_floats` cuts a piece's own floats.
 use Rattle.run_trace.proofs.Cutting.{own-all, own-none, own-rest, of-piece}
 use borrow.Author.Needs.{needs}
-use Rattle.run_trace.proofs.cut_floats.Statement.{statement}
-use Rattle.run_trace.proofs.cut_floats.Tie as tie
+use Rattle.run_trace.proofs.piece.cut_floats.Statement.{statement}
+use Rattle.run_trace.proofs.piece.cut_floats.Tie as tie
 
 cut-requires : tie.Need-cut-requires
 cut-requires c κs = search needs

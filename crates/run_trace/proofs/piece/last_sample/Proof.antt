@@ -1,8 +1,8 @@
 -- `last_sample` is the last two floats, where there are two.
 use Rattle.run_trace.proofs.Cutting.{last-none, last-is}
 use borrow.Author.Needs.{needs}
-use Rattle.run_trace.proofs.last_sample.Statement.{statement}
-use Rattle.run_trace.proofs.last_sample.Tie as tie
+use Rattle.run_trace.proofs.piece.last_sample.Statement.{statement}
+use Rattle.run_trace.proofs.piece.last_sample.Tie as tie
 
 returns : tie.Need-returns
 returns c = last-none _ (c .if1 .taken)
