@@ -1,16 +1,18 @@
--- What specs/Laws.antt promises, proved: comparisons, exact operations, Sterbenz's law and monotone rounding, over every format.
+-- What specs/Laws.antt promises, proved: comparisons, exact operations, Sterbenz's law, monotone rounding and what is handed in, over every format.
 use mathlib.Core.Path.{_≡_, refl, sym, _∙_}
 use mathlib.Core.Logic.{inl, inr}
-use mathlib.Core.Bool.{Bool, true, not}
+use mathlib.Core.Bool.{Bool, true, false, not}
 use Prim.Native.Nat.{ℕ, _^_, _<_}
 use native.Mathlib.Omega.{arith}
 use lib.Pow.{pow-pos}
 use lib.IntN.{_-ℤ_}
-use lib.Ieee.{Float, Format, low, sub}
+use lib.Dec.{T}
+use lib.Ieee.{Float, Format, low, sub, fits, ofBits, toBits}
+use lib.Ieee.Bits.{ofBits-fits, ofBits-toBits}
 use lib.Ieee.Scale.{overflow}
 use Rattle.float.specs.Float.{finite, signBit}
 use Rattle.float.specs.Exact.{mag, signed, units, Value}
-use Rattle.float.specs.Laws.{Compared, Exact, Sterbenz, Laws}
+use Rattle.float.specs.Laws.{Compared, Exact, Sterbenz, Handed, Laws}
 use Rattle.float.proofs.Whole as Whole
 use Rattle.float.proofs.Whole.{Rep, le-or-lt}
 use Rattle.float.proofs.Values.{Is, held, is-finite, is-sign, is-mag, lt-is, le-is, eq-is, sub-is}
@@ -53,6 +55,20 @@ sterbenz f x y v w e h k =
       | inr l ↦ difference-exact (p .is-own) i (net-lt f (signBit x) l) (Whole.sterbenz (q .mag-rep) (p .mag-rep) k) (omega arith)
     ])
 
--- ---- all four
+-- ---- what is handed in
+is-true : (b : Bool) → T b → b ≡ true
+is-true true h = refl
+is-true false h = absurd h
+
+pub handed : (f : Format) → Handed f
+handed f =
+    let own : (n : ℕ) → fits f (ofBits f n) ≡ true = λ n. is-true (fits f (ofBits f n)) (ofBits-fits f n) in
+    record {
+      held = own;
+      pattern = λ x h. ofBits-toBits f x (rw h tt);
+      value = λ n h. record { is-finite = h; held = own n };
+    }
+
+-- ---- all of it
 pub laws : Laws
-laws = record { compared = compared; exact = exact; sterbenz = sterbenz; monotone = monotone }
+laws = record { compared = compared; exact = exact; sterbenz = sterbenz; monotone = monotone; handed = handed }

@@ -49,7 +49,7 @@ neg-num nan h = h
 neg-num (inf s) h = h
 neg-num (fin s m e) h = h
 
-le-neg : (x y : Float) → le x y ≡ true → le (neg y) (neg x) ≡ true
+pub le-neg : (x y : Float) → le x y ≡ true → le (neg y) (neg x) ≡ true
 le-neg x y h = let (p, q) = le-num x y h in not-lt (neg x) (neg y) (neg-num x p) (neg-num y q) (lt-neg x y ∙ le-not-lt x y h)
 
 -- ---- the sign goes through rounding

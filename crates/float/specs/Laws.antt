@@ -1,11 +1,11 @@
--- What is promised of the operations on floats, over every format: comparison and rounding against exact values. Statements only; proofs/Laws.antt has their proofs.
+-- What is promised of the operations on floats, over every format: comparison and rounding against exact values, and that a float which is handed in is a value of its format. Statements only; proofs/Laws.antt has their proofs.
 -- The order of all values, infinities and the NaN among them, is in proofs/Order.antt.
 use Prim.Native.Nat.{ℕ, _*_, _^_, _≤_, _<_}
 use mathlib.Core.Path.{_≡_}
 use mathlib.Core.Bool.{Bool, true}
 use lib.IntN.{pos, _+ℤ_, _-ℤ_, _*ℤ_}
 use lib.Signed.{ltZ, leZ}
-use lib.Ieee.{Float, Format, low, round, add, sub, mul, div, lt, le, eq}
+use lib.Ieee.{Float, Format, low, round, add, sub, mul, div, lt, le, eq, fits, ofBits, toBits}
 use Rattle.float.specs.Float.{finite, signBit}
 use Rattle.float.specs.Exact.{mag, signed, units, eqZ, Value}
 
@@ -34,8 +34,15 @@ Monotone f =
     (s t : Bool) (a b c d : ℕ) → 0 < b → 0 < d → leZ (signed s (a * d)) (signed t (c * b)) ≡ true
     → le (round f s a b) (round f t c d) ≡ true
 
+-- Every float of the language is that of its bit pattern, so `held` of a Value asks nothing of a float that is handed in: what a pattern stands for is always a value that the format holds, and every such value has a pattern.
+pub record Handed (f : Format) : Type 0 where
+  pub held : (n : ℕ) → fits f (ofBits f n) ≡ true
+  pub pattern : (x : Float) → fits f x ≡ true → ofBits f (toBits f x) ≡ x
+  pub value : (n : ℕ) → finite (ofBits f n) ≡ true → Value f (ofBits f n)
+
 pub record Laws : Type 0 where
   pub compared : (f : Format) (x y : Float) → Value f x → Value f y → Compared f x y
   pub exact : (f : Format) (x y z : Float) → Value f x → Value f y → Value f z → Exact f x y z
   pub sterbenz : (f : Format) (x y : Float) → Value f x → Value f y → Sterbenz f x y
   pub monotone : (f : Format) → Monotone f
+  pub handed : (f : Format) → Handed f
