@@ -11,9 +11,7 @@ use Rattle.buffer.proofs.Stored.{stored-join}
 use Rattle.plane.specs.declared.rect.Rect.{Rect}
 use Rattle.cube.specs.declared.vector.Vector.{Vector}
 use Rattle.cube.specs.declared.compute.Uv.{Uv}
-use Rattle.walk.specs.Walk.{segments}
-use Rattle.walk.specs.Refuse.{walkNumber}
-use Rattle.walk.specs.Answers.{walkAnswer}
+use Rattle.walk.specs.Answers.{walkOrRefusal}
 use Rattle.walk.specs.Answers as Walk
 use Rattle.walk.specs.declared.compute.WalkAnswer.{WalkAnswer}
 use Rattle.trace.specs.Answers.{answerOf, bufferAfter}
@@ -102,7 +100,7 @@ unfolding tracedLine shownLine groupsFrom
 traced-line a bs = refl
 
 pub walk-line : (xs s bs : List ℕ) (w : WalkAnswer) (f t : ℕ) (a b : Uv) (p : Vector) → f ≡ numberAt s 1 → a ≡ uvAt s 2 → t ≡ numberAt s 4 → b ≡ uvAt s 5 → p ≡ vectorAt s 7
-    → w ≡ walkAnswer (walkNumber (length xs) f a t b p) (length (segments 8 p f a t b)) → bs ≡ Walk.bufferAfter xs f a t b p → walkedLine w bs ≡ walkLineOn xs s
+    → w ≡ walkOrRefusal (length xs) f a t b p → bs ≡ Walk.bufferAfter xs f a t b p → walkedLine w bs ≡ walkLineOn xs s
 unfolding walkLineOn
 walk-line xs s bs w f t a b p ef ea et eb ep ew es = rw (ew, es, ef, ea, et, eb, ep)
 

@@ -2,9 +2,7 @@
 use Prim.Native.Nat.{ℕ}
 use mathlib.Core.List.{List, [], _∷_}
 use lib.ListN.{length}
-use Rattle.walk.specs.Walk.{segments}
-use Rattle.walk.specs.Refuse.{walkNumber}
-use Rattle.walk.specs.Answers.{walkAnswer, bufferAfter}
+use Rattle.walk.specs.Answers.{walkOrRefusal, bufferAfter}
 use Rattle.walk.specs.declared.compute.WalkAnswer.{WalkAnswer}
 use Rattle.answers.specs.Request.{wordUpTo, uvAt, vectorAt, numberAt}
 use Rattle.answers.specs.Lent.{lent, shownLine}
@@ -20,7 +18,7 @@ walkLineOn xs s =
     let t = numberAt s 4 in
     let b = uvAt s 5 in
     let p = vectorAt s 7 in
-    walkedLine (walkAnswer (walkNumber (length xs) f a t b p) (length (segments 8 p f a t b))) (bufferAfter xs f a t b p)
+    walkedLine (walkOrRefusal (length xs) f a t b p) (bufferAfter xs f a t b p)
 
 unfoldable pub walkLine : List ℕ → List ℕ
 walkLine s = walkLineOn (lent (wordUpTo s 10 400)) s

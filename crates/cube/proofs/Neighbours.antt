@@ -17,7 +17,7 @@ use Rattle.cube.proofs.Six.{upTo, at, both}
 use Rattle.cube.proofs.Directions.{through, along-turned, uDir, vDir, uDir-le, vDir-le, uvw-is}
 
 -- ---- the asked axis of f in the asked direction, as a direction
-abbrev asked : ℕ → ℕ → ℕ → ℕ
+abbrev pub asked : ℕ → ℕ → ℕ → ℕ
 asked f axis direction = through (toward axis direction) (uDir f) (vDir f) f
 
 -- the neighbour is that direction
@@ -35,6 +35,10 @@ right-at f axis direction F A D =
     let e = at 1 (λ d. right f axis d) (at 2 (λ a. upTo 1 (λ d. right f a d)) (at 5 (λ f. upTo 2 (λ a. upTo 1 (λ d. right f a d))) all-right f F) axis A) direction D in
     let (p, q) = both (leb g 5) (eqb (asked f axis direction) g) e in
     (leb-true g 5 p, eqb-true (asked f axis direction) g q)
+
+-- what other crates compute with in its place
+pub neighbour-is : (f axis direction : ℕ) → f ≤ 5 → axis ≤ 2 → direction ≤ 1 → neighbour f axis direction ≡ asked f axis direction
+neighbour-is f axis direction F A D = sym (right-at f axis direction F A D .1)
 
 -- ---- directions are told apart by one vector, (1, 2, 4)
 probe : Vector

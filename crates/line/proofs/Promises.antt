@@ -7,7 +7,8 @@ use borrow.Author.Tests.{eqb-true, le-leb}
 use lib.Ieee.{Float, binary64}
 use Rattle.float.specs.Exact.{Value}
 use Rattle.float.proofs.Values.{held}
-use Rattle.cube.specs.Vector.{isZero}
+use Rattle.float.proofs.Choice.{and-parts}
+use Rattle.cube.specs.Vector.{finiteVector, isZero, HandedIn}
 use Rattle.cube.specs.declared.vector.Vector.{Vector}
 use Rattle.line.specs.Line.{meetsFace, passesOppositeEdges, sumEqual, exitAxis}
 use Rattle.line.specs.Promises.{size, Finite, apart, Tests, SumExact, Promises}
@@ -16,6 +17,13 @@ use Rattle.line.proofs.Normal.{meets-is, opposite-is, zero-is}
 use Rattle.line.proofs.Exit.{leaves}
 use Rattle.line.proofs.Corner.{corner, exit-corner}
 use Rattle.line.proofs.Next.{next}
+
+finite-is : (n : Vector) → HandedIn n → finiteVector n ≡ true → Finite n
+unfolding finiteVector
+finite-is n h e =
+    let (a, d) = and-parts _ _ e in
+    let (b, c) = and-parts _ _ d in
+    record { u = record { is-finite = a; held = h .x }; v = record { is-finite = b; held = h .y }; w = record { is-finite = c; held = h .z } }
 
 zeros : {n : Vector} → Finite n → isZero n ≡ true → (meetsFace n ≡ true) × (passesOppositeEdges n ≡ true)
 zeros {n} v h =
@@ -34,6 +42,7 @@ sum u v w p q r = sum-test (held p) (held q) (held r)
 pub promises : Promises
 promises =
     record {
+      finite-is = finite-is;
       tests = tests;
       sum = sum;
       exit = λ n v nz met. leaves v nz met (exitAxis n) refl;

@@ -9,7 +9,7 @@ use lib.IntN.{ℤ, pos, negℤ, _+ℤ_, _*ℤ_}
 use lib.Ieee.{Float, binary64}
 use Rattle.float.specs.Float.{oneF}
 use Rattle.float.specs.Exact.{mag, units, eqZ, Value}
-use Rattle.cube.specs.Vector.{isZero}
+use Rattle.cube.specs.Vector.{finiteVector, isZero, HandedIn}
 use Rattle.cube.specs.Faces.{uv, pointAt, uvwOf}
 use Rattle.cube.specs.Promises.{InUnit}
 use Rattle.cube.specs.declared.vector.Vector.{Vector}
@@ -23,7 +23,7 @@ exact x = units binary64 x
 abbrev pub size : Float → ℕ
 size x = mag binary64 x
 
--- each part of the normal is finite
+-- each part of the normal is finite, and a value of binary64, as all that is handed in is: `finite-is`
 pub record Finite (n : Vector) : Type 0 where
   pub u : Value binary64 (n .x)
   pub v : Value binary64 (n .y)
@@ -92,6 +92,8 @@ pub record Enters (p : Vector) (f g : ℕ) : Type 0 where
 -- ---- all of it
 
 pub record Promises : Type 0 where
+  -- of a normal that can be handed in, to be finite is all
+  pub finite-is : (n : Vector) → HandedIn n → finiteVector n ≡ true → Finite n
   pub tests : (n : Vector) → Finite n → Tests n
   pub sum : (u v w : Float) → Value binary64 u → Value binary64 v → Value binary64 w → SumExact u v w
   pub exit : (n : Vector) → Finite n → isZero n ≡ false → meetsFace n ≡ true → Leaves n (exitAxis n)

@@ -24,6 +24,10 @@ head-is first whose h =
     let i : whose * 0x100 / 256 ≡ whose = omega arith in
     simp (a, b, c, d, e, f, g, i)
 
+-- of nobody's record it is the first byte
+pub head-alone : (first : ℕ) → first < 256 → bytesOf 8 first ≡ headBytes first 0
+head-alone first h = let e : 0 * 0x1_0000_0000 + first ≡ first = omega arith in rw e at (head-is first 0 h)
+
 -- a word that fits, then the rest
 word-then : (xs ys : List ℕ) (p q n : ℕ) (rest : List ℕ) → ys ≡ placed xs p (bytesOf 8 n) → p + 8 ≤ length xs → q ≡ p + 8 → stored ys q rest ≡ stored xs p (bytesOf 8 n ++ rest)
 word-then xs ys p q n rest = placed-then xs ys p q 8 (bytesOf 8 n) rest (length-bytes 8 n)

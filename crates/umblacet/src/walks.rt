@@ -1,9 +1,7 @@
 // The walk along a line from face to face.
 ghost use mathlib.Core.Path.{_≡_};
 ghost use lib.ListN.{length};
-ghost use Rattle.walk.specs.Walk.{segments};
-ghost use Rattle.walk.specs.Refuse.{walkNumber};
-ghost use Rattle.walk.specs.Answers.{walkAnswer, bufferAfter};
+ghost use Rattle.walk.specs.Answers.{walkOrRefusal, bufferAfter};
 use cube::Vector;
 use cube::compute::Uv;
 use walk::WalkAnswer;
@@ -17,7 +15,7 @@ pub extern "C" fn umb_walk(
     normal: Vector,
     out: &mut [u8],
 ) -> WalkAnswer
-    ensures answer { λ r. ⌜ r ≡ walkAnswer (walkNumber (length (now (out .entry))) face a target b normal) (length (segments 8 normal face a target b)) ⌝ }
+    ensures answer { λ r. ⌜ r ≡ walkOrRefusal (length (now (out .entry))) face a target b normal ⌝ }
     ensures bytes { λ _. ⌜ now (out .exit) ≡ bufferAfter (now (out .entry)) face a target b normal ⌝ }
 {
     walk::walk(face, a, target, b, normal, out)

@@ -2,7 +2,7 @@
 use mathlib.Core.Path.{_≡_, refl, sym, ap, _∙_}
 use mathlib.Core.Logic.{inl, inr}
 use mathlib.Core.Bool.{Bool, true, false, not, _&&_, _||_, cond}
-use Prim.Native.Nat.{ℕ, _+_, _<_}
+use Prim.Native.Nat.{ℕ, _+_, _≤_, _<_}
 use native.Mathlib.Nat.{pos-of-ne-zero}
 use native.Mathlib.Omega.{arith}
 use lib.Dec.{leb, eqb}
@@ -19,11 +19,13 @@ use Rattle.cube.specs.Vector.{isZero}
 use Rattle.cube.specs.Faces.{neighbour}
 use Rattle.cube.specs.declared.vector.Vector.{Vector}
 use Rattle.cube.proofs.Six.{both}
+use Rattle.cube.proofs.Neighbours.{asked, neighbour-is}
 use Rattle.line.specs.declared.compute.Axis.{Axis}
 use Rattle.line.specs.declared.compute.Axis.the-variants.{U, «V»}
 use Rattle.line.specs.Line.{byAxis, meetsFace, passesOppositeEdges, evenSigns, exitAxis, oneIf, exitPoint, directionOf, atCorner, nextFace}
 use Rattle.line.specs.Line.{otherAxis, coordinate, axisNumber, neighbourOver}
 use Rattle.line.specs.Promises.{size, Finite, apart, cornerAt, Through}
+use Rattle.line.proofs.Next.{axis-le}
 use Rattle.line.proofs.Normal.{u-held, v-held, zero-is, opposite-is}
 use Rattle.line.proofs.Exit.{isV, leaves, exit-side, axis-v}
 use Rattle.line.proofs.Corner.{corner-coordinate, one-if-inj, factor-is-signed, on-own, on-other, exit-corner}
@@ -90,13 +92,17 @@ direction-is false = refl
 
 -- the neighbour over an axis, by its side
 abbrev pub over : Axis → ℕ → Bool → ℕ
-over a f plus = neighbour f (axisNumber a) (cond plus 1 0)
+over a f plus = asked f (axisNumber a) (cond plus 1 0)
 
-over-side : (f : ℕ) (a : Axis) {c : Float} (plus : Bool) → c ≡ oneIf plus → neighbour f (axisNumber a) (directionOf c) ≡ over a f plus
-over-side f a plus e = ap (neighbour f (axisNumber a)) (ap directionOf e ∙ direction-is plus)
+side-le : (plus : Bool) → cond plus 1 0 ≤ 1
+side-le true = omega arith
+side-le false = omega arith
 
-over-corner : (f : ℕ) (a : Axis) (i j : Bool) → neighbourOver f a (cornerAt i j) ≡ over a f (byAxis a i j)
-over-corner f a i j = over-side f a _ (corner-coordinate a i j)
+over-side : (f : ℕ) → f ≤ 5 → (a : Axis) {c : Float} (plus : Bool) → c ≡ oneIf plus → neighbour f (axisNumber a) (directionOf c) ≡ over a f plus
+over-side f F a plus e = ap (neighbour f (axisNumber a)) (ap directionOf e ∙ direction-is plus) ∙ neighbour-is f (axisNumber a) (cond plus 1 0) F (omega (arith, axis-le a)) (side-le plus)
+
+over-corner : (f : ℕ) → f ≤ 5 → (a : Axis) (i j : Bool) → neighbourOver f a (cornerAt i j) ≡ over a f (byAxis a i j)
+over-corner f F a i j = over-side f F a _ (corner-coordinate a i j)
 
 -- what holds of a corner holds of it by its sides on the two axes
 by-sides : (a : Axis) (i j : Bool) (P : Bool → Bool → Type 0) → P i j
@@ -163,7 +169,7 @@ module _ {n : Vector} (v : Finite n) (nz : isZero n ≡ false) (met : meetsFace 
   side-is «V» h = exit-side n «V» ∙ ap oneIf (lt-nought (u-held v .is-own) (leaves v nz met «V» h .divides))
 
   -- ---- the next face, by the exit axis a: a corner of the exit edge has the side m on the other axis
-  module _ (f t : ℕ) where
+  module _ (f t : ℕ) (F : f ≤ 5) where
     abbrev pub through : Axis → Bool → Bool
     through a m = throughK (byAxis a (plusSide a) m) (byAxis a m (plusSide a)) u-part v-part w-part
 
@@ -177,17 +183,17 @@ module _ {n : Vector} (v : Finite n) (nz : isZero n ≡ false) (met : meetsFace 
         let d = c .0 g in
         let q : byAxis a (d .i) (d .j) ≡ k = one-if-inj _ k (sym (corner-coordinate a (d .i) (d .j)) ∙ d .edge ∙ s) in
         let p = by-sides a (d .i) (d .j) (λ i j. throughK i j u-part v-part w-part ≡ true) (through-to (d .i) (d .j) (d .corner .through)) in
-        (byAxis (otherAxis a) (d .i) (d .j), rw q at p, sym (over-corner f (otherAxis a) (d .i) (d .j)) ∙ d .corner .target))
+        (byAxis (otherAxis a) (d .i) (d .j), rw q at p, sym (over-corner f F (otherAxis a) (d .i) (d .j)) ∙ d .corner .target))
         (λ m g q.
         let i = byAxis a k m in
         let j = byAxis a m k in
         let e = corner-coordinate a i j ∙ ap oneIf (on-own a k m) ∙ sym s in
-        let o = over-corner f (otherAxis a) i j ∙ ap (over (otherAxis a) f) (on-other a k m) ∙ q in
+        let o = over-corner f F (otherAxis a) i j ∙ ap (over (otherAxis a) f) (on-other a k m) ∙ q in
         c .1 (record { i = i; j = j; edge = e; corner = record { through = through-of i j g; target = o } }))
 
     next-is : (a : Axis) → exitAxis n ≡ a → nextFace f (exitPoint n a) a n t ≡ cond (hit t (through a) (over (otherAxis a) f)) t (over a f (plusSide a))
     unfolding nextFace
-    next-is a h = choose t (corner-is a h) (over-side f a (plusSide a) (side-is a h))
+    next-is a h = choose t (corner-is a h) (over-side f F a (plusSide a) (side-is a h))
 
     pub step-is : nextFace f (exitPoint n (exitAxis n)) (exitAxis n) n t ≡ stepK t f u-part v-part w-part
     step-is = go (exitAxis n) refl

@@ -18,6 +18,8 @@ use Rattle.line.proofs.Promises as line
 use Rattle.walk.specs.Walk.{met, enteredAt, stopNumber, Segment, segment, segments}
 use Rattle.walk.specs.Promises.{Follows, FollowedBy, Linked}
 use Rattle.walk.proofs.Over.{onward-beside, enters-one}
+use Rattle.walk.proofs.Square.{moved-square}
+use Rattle.walk.proofs.Points.{left-square}
 
 -- a vector whose last coordinate is known
 last-is : (r : Vector) (z : Float) → r .z ≡ z → r ≡ vec (r .x) (r .y) z
@@ -35,6 +37,7 @@ module _ (p : Vector) (v : Finite p) (nz : isZero p ≡ false) (t : ℕ) where
         meets = i .met;
         begins = last-is _ oneF (i .shared);
         enters = enters-one f (onward p f t) F (onward-beside v nz f t F m) (leftAt p f);
+        inside = moved-square f (onward p f t) F (i .face) (leftAt p f) (left-square p v nz f F m);
       }
 
   -- the first of what is left

@@ -4,7 +4,7 @@ use mathlib.Core.Bool.{Bool, true, false, _&&_, Bool·beq, false≢true}
 use mathlib.Core.Path.{_≡_, refl}
 use lib.Dec.{eqb}
 use Rattle.float.specs.Choice.{when_then_else_}
-use Rattle.cube.specs.Faces.{byFace, minusOrPlus, rowAt, neighbour}
+use Rattle.cube.specs.Faces.{byFace, minusOrPlus}
 use Rattle.cube.proofs.Six.{upTo, at, both}
 use Rattle.cube.proofs.Directions.{uDir, vDir}
 use Rattle.walk.proofs.Kind.{Part, Kind, partAt, nextK, meetsK, real}
@@ -37,7 +37,7 @@ rightAll : Kind → Bool
 rightAll k = elim (real k) [ true ↦ upTo 5 (λ t. upTo 5 (λ f. right k t f)) | false ↦ true ]
 
 all : everyP (λ a. everyP (λ b. everyP (λ c. rightAll (record { x = a; y = b; z = c })))) ≡ true
-unfolding everyP rightAll right nextK meetsK real partAt uDir vDir neighbour rowAt minusOrPlus when_then_else_ byFace
+unfolding everyP rightAll right nextK meetsK real partAt uDir vDir minusOrPlus when_then_else_ byFace
 all = refl
 
 -- ---- and at each

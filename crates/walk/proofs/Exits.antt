@@ -12,7 +12,7 @@ use Rattle.cube.specs.declared.vector.Vector.{Vector}
 use Rattle.cube.specs.declared.compute.Uv.{Uv}
 use Rattle.walk.specs.Walk.{stopNumber, segments, countOf, recordsOf}
 use Rattle.walk.specs.Refuse.{inputRefusal, roomRefusal, walkNumber}
-use Rattle.walk.specs.Answers.{walkAnswer, bufferAfter}
+use Rattle.walk.specs.Answers.{walkAnswer, walkOrRefusal, bufferAfter}
 use Rattle.walk.specs.declared.compute.WalkAnswer.{WalkAnswer}
 use Rattle.walk.proofs.Records.{length-records, length-segments, records-within}
 use Rattle.walk.proofs.Copied.{stored-taken}
@@ -56,10 +56,10 @@ module _ (f : ℕ) (a : Uv) (t : ℕ) (b : Uv) (p : Vector) where
   -- ---- the answer, and the buffer after
   module _ (xs ys : List ℕ) where
     abbrev pub Left : WalkAnswer → Type 0
-    Left r = (r ≡ walkAnswer (walkNumber (length xs) f a t b p) (length (segments 8 p f a t b))) × (ys ≡ bufferAfter xs f a t b p)
+    Left r = (r ≡ walkOrRefusal (length xs) f a t b p) × (ys ≡ bufferAfter xs f a t b p)
 
     refused : (n : ℕ) → n ≡ walkNumber (length xs) f a t b p → (n ≡ 0 → ⊥) → ys ≡ xs → Left (record { number = n; count = 0 })
-    unfolding bufferAfter
+    unfolding walkOrRefusal bufferAfter
     refused n e z u = (answer-other n _ _ e (λ h. z (e ∙ h)), ask-other n _ ys _ xs e z u)
 
     module _ (n : ℕ) (d : n ≡ inputRefusal f a t b p) where
@@ -84,7 +84,7 @@ module _ (f : ℕ) (a : Uv) (t : ℕ) (b : Uv) (p : Vector) where
             refused 8 (by-room 8 q (room-short _ _ l)) (λ h. omega arith) u
 
         pub by-done : r .number ≡ 0 → r .count ≤ length xs / 40 → (bs : List ℕ) → bs ≡ recordsOf (segments 8 p f a t b) → ys ≡ stored xs 0 bs → Left r
-        unfolding bufferAfter
+        unfolding walkOrRefusal bufferAfter
         by-done q h bs k u =
             let l : length (segments 8 p f a t b) ≤ length xs / 40 = omega (arith, count-is r g q) in
             let e : 0 ≡ walkNumber (length xs) f a t b p = by-room 0 q (room-enough _ _ l) in (

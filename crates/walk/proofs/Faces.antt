@@ -60,7 +60,7 @@ module _ {p : Vector} (v : Finite p) where
 
     pub next-kind : isZero p ≡ false → (t : ℕ) → met p f ≡ true → onward p f t ≡ nextK t f (kindOf p)
     unfolding nextK
-    next-kind nz t m = step-is (finite-in v f F) (not-zero-in v nz f F) m (total p) (sym (total-is p f F)) f t ∙ cc (u-part, v-part, w-part)
+    next-kind nz t m = step-is (finite-in v f F) (not-zero-in v nz f F) m (total p) (sym (total-is p f F)) f t F ∙ cc (u-part, v-part, w-part)
 
 -- ---- the kind of a normal is one of the eighty
 or-i : (a b : Bool) → (a ≡ false → b ≡ true) → (a || b) ≡ true

@@ -4,9 +4,10 @@ use mathlib.Core.Bool.{Bool, true, false, not, _&&_, _||_, cond, Bool·beq}
 use lib.Dec.{leb, eqb}
 use lib.Ieee.{Float, unlike}
 use Rattle.float.specs.Float.{signBit}
-use Rattle.cube.specs.Faces.{byFace, neighbour}
+use Rattle.cube.specs.Faces.{byFace}
 use Rattle.cube.specs.declared.vector.Vector.{Vector}
 use Rattle.cube.proofs.Directions.{uDir, vDir}
+use Rattle.cube.proofs.Neighbours.{asked}
 use Rattle.line.specs.Promises.{size}
 
 -- one axis: its sign bit; it is at least the others' sum; it is at most that
@@ -54,12 +55,12 @@ throughK i j u v w = balance (unlike (not i) (u .s)) u (unlike (not j) (v .s)) v
 abbrev pub onVK : Part → Part → Part → Bool
 onVK u v w = u .g || (not (v .g) && not (unlike (unlike (u .s) (v .s)) (w .s)))
 
--- the neighbour over u, and over v, on the plus side or the minus
+-- the neighbour over u, and over v, on the plus side or the minus: the direction asked for, which its law says it is
 abbrev pub overU : ℕ → Bool → ℕ
-overU f plus = neighbour f 0 (cond plus 1 0)
+overU f plus = asked f 0 (cond plus 1 0)
 
 abbrev pub overV : ℕ → Bool → ℕ
-overV f plus = neighbour f 1 (cond plus 1 0)
+overV f plus = asked f 1 (cond plus 1 0)
 
 -- a corner of the exit edge is passed, and the target lies over the other axis there
 abbrev pub hit : ℕ → (Bool → Bool) → (Bool → ℕ) → Bool

@@ -3,6 +3,8 @@ pub mod Records
 pub mod Stops
 pub mod Exits
 pub mod Over
+pub mod Square
+pub mod Points
 pub mod Chain
 pub mod Cycle
 pub mod Kind
@@ -11,6 +13,8 @@ pub mod Balance
 pub mod Agree
 pub mod Faces
 pub mod Arrive
+pub mod Admitted
+pub mod Entry
 pub mod Promises
 pub mod Copied
 pub mod Step

@@ -11,11 +11,12 @@ use Rattle.float.specs.Float.{oneF}
 use Rattle.float.proofs.Choice.{cases}
 use Rattle.cube.specs.Vector.{vec, isZero}
 use Rattle.cube.specs.Faces as Faces
-use Rattle.cube.specs.Faces.{byFace, pointAt, uvwOf, minusOrPlus, rowAt, neighbour}
+use Rattle.cube.specs.Faces.{byFace, pointAt, uvwOf, minusOrPlus, neighbour}
 use Rattle.cube.specs.declared.vector.Vector.{Vector}
 use Rattle.cube.specs.declared.compute.Uv.{Uv}
 use Rattle.cube.proofs.Six.{six, upTo, at, both}
 use Rattle.cube.proofs.Directions.{atPoint, uDir, vDir, uDir-le, vDir-le, uvw-is, along-point}
+use Rattle.cube.proofs.Neighbours.{asked, neighbour-is}
 use Rattle.cube.proofs.Promises as cube
 use Rattle.line.specs.declared.compute.Axis.{Axis}
 use Rattle.line.specs.declared.compute.Axis.the-variants.{U, «V»}
@@ -67,14 +68,14 @@ isW h = leb h 5 && eqb (h % 3) 2
 shares : ℕ → ℕ → Bool
 shares f g = isW (atPoint f (uDir g)) || isW (atPoint f (vDir g))
 
-all-share : upTo 5 (λ f. upTo 1 (λ a. upTo 1 (λ d. shares f (neighbour f a d)))) ≡ true
-unfolding shares isW atPoint neighbour rowAt minusOrPlus when_then_else_ uDir vDir byFace
+all-share : upTo 5 (λ f. upTo 1 (λ a. upTo 1 (λ d. shares f (asked f a d)))) ≡ true
+unfolding shares isW atPoint minusOrPlus when_then_else_ uDir vDir byFace
 all-share = refl
 
 share-at : {f g : ℕ} → f ≤ 5 → Beside f g → shares f g ≡ true
 share-at {f} {g} F h =
-    let e = at 1 (λ d. shares f (neighbour f (h .axis) d)) (at 1 (λ a. upTo 1 (λ d. shares f (neighbour f a d))) (at 5 (λ f. upTo 1 (λ a. upTo 1 (λ d. shares f (neighbour f a d)))) all-share f F) (h .axis) (h .axis-is)) (h .direction) (h .direction-is) in
-    rw (h .is) e
+    let e = at 1 (λ d. shares f (asked f (h .axis) d)) (at 1 (λ a. upTo 1 (λ d. shares f (asked f a d))) (at 5 (λ f. upTo 1 (λ a. upTo 1 (λ d. shares f (asked f a d)))) all-share f F) (h .axis) (h .axis-is)) (h .direction) (h .direction-is) in
+    rw (h .is ∙ neighbour-is f (h .axis) (h .direction) F (omega arith) (h .direction-is)) e
 
 w-one : (u v : Float) (h : ℕ) → isW h ≡ true → (plus : Bool) × (Faces.along h (vec u v oneF) ≡ oneIf plus)
 unfolding isW Faces.along byFace oneIf when_then_else_
@@ -87,14 +88,19 @@ either : {R : Type 0} (p q : Bool) → (p || q) ≡ true → (p ≡ true → R) 
 either true q e f g = f refl
 either false q e f g = g e
 
+-- the coordinates there, as directions of (u, v, 1)
+module _ (f g : ℕ) (F : f ≤ 5) (G : g ≤ 5) (e : Uv) where
+  pub moved-u : movedTo f e g .u ≡ Faces.along (atPoint f (uDir g)) (vec (e .u) (e .v) oneF)
+  moved-u = ap (λ (r : Vector). r .x) (uvw-is (pointAt f (e .u) (e .v)) g G) ∙ along-point (e .u) (e .v) f (uDir g) F (uDir-le g G)
+
+  pub moved-v : movedTo f e g .v ≡ Faces.along (atPoint f (vDir g)) (vec (e .u) (e .v) oneF)
+  moved-v = ap (λ (r : Vector). r .y) (uvw-is (pointAt f (e .u) (e .v)) g G) ∙ along-point (e .u) (e .v) f (vDir g) F (vDir-le g G)
+
 -- so a point of f has there one coordinate exactly 1 or -1
 pub enters-one : (f g : ℕ) → f ≤ 5 → Beside f g → (e : Uv) → (a : Axis) × OneOn a (movedTo f e g)
 unfolding shares byAxis
 enters-one f g F h e =
     let G = beside-le F h in
-    let q = pointAt f (e .u) (e .v) in
-    let x : uvwOf g q .x ≡ Faces.along (atPoint f (uDir g)) (vec (e .u) (e .v) oneF) = ap (λ (r : Vector). r .x) (uvw-is q g G) ∙ along-point (e .u) (e .v) f (uDir g) F (uDir-le g G) in
-    let y : uvwOf g q .y ≡ Faces.along (atPoint f (vDir g)) (vec (e .u) (e .v) oneF) = ap (λ (r : Vector). r .y) (uvw-is q g G) ∙ along-point (e .u) (e .v) f (vDir g) F (vDir-le g G) in
     either (isW (atPoint f (uDir g))) (isW (atPoint f (vDir g))) (share-at F h)
-    (λ z. let (k, o) = w-one (e .u) (e .v) (atPoint f (uDir g)) z in (U, record { plus = k; one = x ∙ o }))
-    (λ z. let (k, o) = w-one (e .u) (e .v) (atPoint f (vDir g)) z in («V», record { plus = k; one = y ∙ o }))
+    (λ z. let (k, o) = w-one (e .u) (e .v) (atPoint f (uDir g)) z in (U, record { plus = k; one = moved-u f g F G e ∙ o }))
+    (λ z. let (k, o) = w-one (e .u) (e .v) (atPoint f (vDir g)) z in («V», record { plus = k; one = moved-v f g F G e ∙ o }))

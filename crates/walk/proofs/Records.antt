@@ -13,7 +13,6 @@ use Rattle.cube.specs.declared.vector.Vector.{Vector}
 use Rattle.cube.specs.declared.compute.Uv.{Uv}
 use Rattle.line.specs.Line.{leftAt, onward}
 use Rattle.record.specs.Record.{recordBytes}
-use Rattle.record.specs.declared.Ends.{Ends}
 use Rattle.record.proofs.Words.{length-record}
 use Rattle.record.proofs.Ahead.{Ahead, ahead}
 use Rattle.walk.specs.Walk.{movedTo, Segment, segment, segments, countOf, endsOf, segmentBytes, recordsOf}
@@ -44,26 +43,26 @@ pub records-within : (k : ℕ) (p : Vector) (f : ℕ) (a : Uv) (t : ℕ) (b : Uv
 records-within k p f a t b = omega (arith, length-records (segments k p f a t b), length-segments k p f a t b, count-within k p f t)
 
 -- ---- a record, then the rest
-module _ (p : Vector) (f : ℕ) (a : Uv) (t : ℕ) (b : Uv) (s : Ends) where
-  records-last : (k : ℕ) → 0 < k → f ≡ t → s ≡ endsOf a b → recordsOf (segments k p f a t b) ≡ recordBytes f 0 s ++ []
+module _ (p : Vector) (f : ℕ) (a : Uv) (t : ℕ) (b : Uv) where
+  records-last : (k : ℕ) → 0 < k → f ≡ t → recordsOf (segments k p f a t b) ≡ recordBytes f 0 (endsOf a b) ++ []
   unfolding segments recordsOf
-  records-last zero h e es = absurd (omega arith)
-  records-last (suc k) h e es = rw es (sym (ap recordsOf (when-eq f t (segment f a b ∷ []) (segment f a b ∷ []) _ e refl)))
+  records-last zero h e = absurd (omega arith)
+  records-last (suc k) h e = sym (ap recordsOf (when-eq f t (segment f a b ∷ []) (segment f a b ∷ []) _ e refl))
 
-  records-onward : (k : ℕ) (e c : Uv) (g : ℕ) → 0 < k → (f ≡ t → ⊥) → e ≡ leftAt p f → s ≡ endsOf a e → g ≡ onward p f t → c ≡ movedTo f e g
-      → recordsOf (segments k p f a t b) ≡ recordBytes f 0 s ++ recordsOf (segments (k - 1) p g c t b)
+  records-onward : (k : ℕ) (e c : Uv) (g : ℕ) → 0 < k → (f ≡ t → ⊥) → e ≡ leftAt p f → g ≡ onward p f t → c ≡ movedTo f e g
+      → recordsOf (segments k p f a t b) ≡ recordBytes f 0 (endsOf a e) ++ recordsOf (segments (k - 1) p g c t b)
   unfolding segments recordsOf
-  records-onward zero e c g h n ee es eg ec = absurd (omega arith)
-  records-onward (suc k) e c g h n ee es eg ec = let d : suc k - 1 ≡ k = omega arith in rw (es, ec, eg, ee, d) (sym (ap recordsOf (when-ne f t _ _ _ n refl)))
+  records-onward zero e c g h n ee eg ec = absurd (omega arith)
+  records-onward (suc k) e c g h n ee eg ec = let d : suc k - 1 ≡ k = omega arith in rw (ec, eg, ee, d) (sym (ap recordsOf (when-ne f t _ _ _ n refl)))
 
 -- ---- one record that fits at a place, then the rest at the next
-module _ (xs ys : List ℕ) (to : ℕ) (p : Vector) (f : ℕ) (a : Uv) (t : ℕ) (b : Uv) (s : Ends) (k : ℕ) (h : 0 < k) (r : to + length (recordsOf (segments k p f a t b)) ≤ length xs) (w : ys ≡ placed xs to (recordBytes f 0 s)) where
+module _ (xs ys : List ℕ) (to : ℕ) (p : Vector) (f : ℕ) (a : Uv) (t : ℕ) (b : Uv) (k : ℕ) (h : 0 < k) (r : to + length (recordsOf (segments k p f a t b)) ≤ length xs) where
   -- at the target it is the last
-  pub last-stored : f ≡ t → s ≡ endsOf a b → ys ≡ stored xs to (recordsOf (segments k p f a t b))
+  pub last-stored : f ≡ t → ys ≡ placed xs to (recordBytes f 0 (endsOf a b)) → ys ≡ stored xs to (recordsOf (segments k p f a t b))
   unfolding stored
-  last-stored e es = ahead xs ys to f 0 s [] _ (records-last p f a t b s k h e es) r w .same
+  last-stored e w = ahead xs ys to f 0 (endsOf a b) [] _ (records-last p f a t b k h e) r w .same
 
   -- and else the walk goes on from there
-  pub goes-on : (e c : Uv) (g : ℕ) → (f ≡ t → ⊥) → e ≡ leftAt p f → s ≡ endsOf a e → g ≡ onward p f t → c ≡ movedTo f e g
+  pub goes-on : (e c : Uv) (g : ℕ) → (f ≡ t → ⊥) → ys ≡ placed xs to (recordBytes f 0 (endsOf a e)) → e ≡ leftAt p f → g ≡ onward p f t → c ≡ movedTo f e g
       → Ahead xs ys to (recordsOf (segments (k - 1) p g c t b)) (recordsOf (segments k p f a t b))
-  goes-on e c g n ee es eg ec = ahead xs ys to f 0 s _ _ (records-onward p f a t b s k e c g h n ee es eg ec) r w
+  goes-on e c g n w ee eg ec = ahead xs ys to f 0 (endsOf a e) _ _ (records-onward p f a t b k e c g h n ee eg ec) r w

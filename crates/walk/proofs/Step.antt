@@ -6,7 +6,7 @@ use Rattle.cube.specs.Faces.{uvwOf}
 use Rattle.cube.specs.declared.vector.Vector.{Vector}
 use Rattle.line.specs.Line.{meetsFace, exitAxis, exitPoint, nextFace, leftAt, onward}
 use Rattle.walk.specs.Walk.{met}
-use Rattle.walk.specs.Step.{crossing}
+use Rattle.walk.specs.Inner.{crossing}
 use Rattle.walk.specs.declared.compute.Crossing.{Crossing}
 
 module _ (p : Vector) (f : ℕ) (n : Vector) (e : n ≡ uvwOf f p) where

@@ -14,6 +14,10 @@ use Rattle.walk.specs.declared.compute.WalkAnswer.{WalkAnswer}
 abbrev pub walkAnswer : ℕ → ℕ → WalkAnswer
 walkAnswer n count = record { number = n; count = beside n count 0 }
 
+-- the entry, with so many bytes lent: its number, and beside 0 how many segments there are
+unfoldable pub walkOrRefusal : ℕ → ℕ → Uv → ℕ → Uv → Vector → WalkAnswer
+walkOrRefusal bytes f a t b p = walkAnswer (walkNumber bytes f a t b p) (length (segments 8 p f a t b))
+
 -- with 0 the records followed by the old bytes, and with any other number the old bytes
 unfoldable pub bufferAfter : List ℕ → ℕ → Uv → ℕ → Uv → Vector → List ℕ
 bufferAfter xs f a t b p = beside (walkNumber (length xs) f a t b p) (followedBy (recordsOf (segments 8 p f a t b)) xs) xs

@@ -7,10 +7,10 @@ use mathlib.Core.List.{List, [], _∷_}
 use lib.ListN.{length}
 use Rattle.float.specs.Choice.{when_then_else_}
 use Rattle.float.specs.Float.{oneF}
-use Rattle.answer.specs.Answer.{done, offFace, unfinished}
-use Rattle.cube.specs.Vector.{vec, isZero}
+use Rattle.answer.specs.Answer.{done, offFace, unfinished, shortBuffer}
+use Rattle.cube.specs.Vector.{vec, isZero, HandedIn}
 use Rattle.cube.specs.Faces.{pointAt, uvwOf}
-use Rattle.cube.specs.Promises.{InUnit}
+use Rattle.cube.specs.Promises.{InUnit, InSquare}
 use Rattle.cube.specs.declared.vector.Vector.{Vector}
 use Rattle.cube.specs.declared.compute.Uv.{Uv}
 use Rattle.line.specs.declared.compute.Axis.{Axis}
@@ -19,10 +19,14 @@ use Rattle.line.specs.Promises.{Finite}
 use Rattle.walk.specs.Walk.{met, stopNumber, Segment, segments}
 use Rattle.walk.specs.Refuse.{inputRefusal, walkNumber}
 
--- a finite normal that is not zero, and a first face that the line meets
-pub record Begun (p : Vector) (f t : ℕ) : Type 0 where
+-- a finite normal that is not zero
+pub record Normal (p : Vector) : Type 0 where
   pub finite : Finite p
   pub some : isZero p ≡ false
+
+-- such a normal, and a first face that the line meets
+pub record Begun (p : Vector) (f t : ℕ) : Type 0 where
+  pub normal : Normal p
   pub face : f ≤ 5
   pub target : t ≤ 5
   pub meets : met p f ≡ true
@@ -41,13 +45,14 @@ pub record OnEdge (e : Uv) : Type 0 where
   pub inside : InUnit (coordinate (otherAxis axis) e)
 
 -- the segment r after s: s ends at an edge, and the line also meets the face of r;
--- r begins at the point where s ended, in the new face's coordinates, where its w is exactly 1 and one of its two coordinates exactly 1 or -1
+-- r begins at the point where s ended, in the new face's coordinates, where its w is exactly 1, one of its two coordinates exactly 1 or -1, and both from -1 to 1
 pub record Follows (p : Vector) (s r : Segment) : Type 0 where
   pub leaves : OnEdge (s .b)
   pub face : r .face ≤ 5
   pub meets : met p (r .face) ≡ true
   pub begins : uvwOf (r .face) (pointAt (s .face) (s .b .u) (s .b .v)) ≡ vec (r .a .u) (r .a .v) oneF
   pub enters : (a : Axis) × OneOn a (r .a)
+  pub inside : InSquare (r .a)
 
 -- every segment but the last is so followed
 unfoldable pub FollowedBy : Vector → Segment → List Segment → Type 0
@@ -58,18 +63,35 @@ unfoldable pub Linked : Vector → List Segment → Type 0
 Linked p [] = Unit
 Linked p (s ∷ ss) = FollowedBy p s ss × Linked p ss
 
+-- ---- the entry's number
+
+-- in floats that can be handed in, with so many bytes lent
+pub record Entry (bytes f : ℕ) (a : Uv) (t : ℕ) (b : Uv) (p : Vector) : Type 0 where
+  -- 6 is given where the line misses the first face, and nowhere else
+  pub off : walkNumber bytes f a t b p ≡ offFace → met p f ≡ false
+  -- 7: with however many faces it would have been unfinished
+  pub gives-up : walkNumber bytes f a t b p ≡ unfinished → (k : ℕ) → stopNumber k p f t ≡ unfinished
+  -- 0: it has at most six segments
+  pub at-most-six : walkNumber bytes f a t b p ≡ done → length (segments 8 p f a t b) ≤ 6
+  -- so that 240 bytes always hold it: 8 is not given
+  pub holds : 240 ≤ bytes → walkNumber bytes f a t b p ≡ shortBuffer → ⊥
+  -- and of an input that is admitted, on a first face that the line meets, the number is 0 where it meets the target too, and else 7
+  pub given : inputRefusal f a t b p ≡ done → met p f ≡ true → 240 ≤ bytes → walkNumber bytes f a t b p ≡ (when met p t then done else unfinished)
+
 -- ---- all of it
 
 pub record Promises : Type 0 where
-  -- each segment but the last is followed by the next
-  pub linked : (p : Vector) (f t : ℕ) → Begun p f t → (a b : Uv) → Linked p (segments 8 p f a t b)
+  -- with however many faces, each segment but the last is followed by the next
+  pub linked : (k : ℕ) (p : Vector) (f t : ℕ) → Begun p f t → (a b : Uv) → Linked p (segments k p f a t b)
   -- so number 6 is never given
-  pub never-off : (p : Vector) (f t : ℕ) → Begun p f t → stopNumber 8 p f t ≡ offFace → ⊥
+  pub never-off : (k : ℕ) (p : Vector) (f t : ℕ) → Begun p f t → stopNumber k p f t ≡ offFace → ⊥
   -- whatever the normal, where 6 is not given: 7 exactly when no longer walk, with however many faces, would arrive
   pub never-arrives : (p : Vector) (f t : ℕ) → f ≤ 5 → t ≤ 5 → (stopNumber 8 p f t ≡ offFace → ⊥) → (stopNumber 8 p f t ≡ unfinished) ↔ ((k : ℕ) → stopNumber k p f t ≡ done → ⊥)
+  -- given up unfinished, a walk is unfinished with however many faces
+  pub given-up : (p : Vector) (f t : ℕ) → Begun p f t → stopNumber 8 p f t ≡ unfinished → (k : ℕ) → stopNumber k p f t ≡ unfinished
   -- it arrives exactly when the line meets the target
   pub arrives : (p : Vector) (f t : ℕ) → Begun p f t → stopNumber 8 p f t ≡ (when met p t then done else unfinished)
-  -- and then has at most six segments
-  pub six : (p : Vector) (f t : ℕ) → Begun p f t → stopNumber 8 p f t ≡ done → (a b : Uv) → length (segments 8 p f a t b) ≤ 6
-  -- so that 240 bytes always hold it: the number given for input that is admitted is 0 where the line meets the target, and else 7
-  pub given : (p : Vector) (f t : ℕ) → Begun p f t → (a b : Uv) → inputRefusal f a t b p ≡ done → (bytes : ℕ) → 240 ≤ bytes → walkNumber bytes f a t b p ≡ (when met p t then done else unfinished)
+  -- a walk that arrives has at most six segments, from whatever face it began
+  pub six : (p : Vector) (f t : ℕ) → Normal p → f ≤ 5 → t ≤ 5 → stopNumber 8 p f t ≡ done → (a b : Uv) → length (segments 8 p f a t b) ≤ 6
+  -- the same of the number that the entry gives, with a buffer of any length and whatever points
+  pub entry : (bytes f : ℕ) (a : Uv) (t : ℕ) (b : Uv) (p : Vector) → HandedIn p → Entry bytes f a t b p

@@ -1,7 +1,7 @@
 // What the entry computes: any normal and any points go in, and nothing is refused.
 ghost use mathlib.Core.Path.{_≡_};
 ghost use Rattle.walk.specs.Walk.{movedTo};
-ghost use Rattle.walk.specs.Step.{crossing};
+ghost use Rattle.walk.specs.Inner.{crossing};
 use cube::Vector;
 use cube::compute::Uv;
 

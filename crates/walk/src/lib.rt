@@ -9,11 +9,12 @@ pub mod refuse;
 ghost use Prim.Native.Nat.{_≤_};
 ghost use mathlib.Core.Path.{_≡_};
 ghost use lib.ListN.{length, take};
-ghost use Rattle.buffer.specs.Bytes.{stored};
 ghost use Rattle.answer.specs.Answer.{done};
+ghost use Rattle.buffer.specs.Bytes.{stored, placed};
+ghost use Rattle.record.specs.Record.{recordBytes};
 ghost use Rattle.walk.specs.Walk.{stopNumber, segments, countOf, endsOf, recordsOf};
-ghost use Rattle.walk.specs.Refuse.{walkNumber};
-ghost use Rattle.walk.specs.Answers.{walkAnswer, bufferAfter};
+ghost use Rattle.walk.specs.Answers.{walkAnswer, walkOrRefusal, bufferAfter};
+ghost use Rattle.walk.specs.Inner.{Numbers, Admitted};
 use answer::DONE;
 use answer::OFF_FACE;
 use answer::SHORT_BUFFER;
@@ -21,7 +22,6 @@ use answer::UNFINISHED;
 pub use compute::WalkAnswer;
 use cube::Vector;
 use cube::compute::Uv;
-use record::Ends;
 
 // The segments of the line with this normal, from the point a of a face to the point b of the target:
 // a record of 40 bytes for each, from the first byte of out on. The points are copied as they are. A
@@ -30,7 +30,7 @@ use record::Ends;
 // normal all zero, 6 where the line does not meet a face that is not the target, 7 where the target
 // is not among the first 8 faces, 8 where out has no room: then no byte is changed.
 pub fn walk(face: u8, a: Uv, target: u8, b: Uv, normal: Vector, out: &mut [u8]) -> WalkAnswer
-    ensures answer { λ r. ⌜ r ≡ walkAnswer (walkNumber (length (now (out .entry))) face a target b normal) (length (segments 8 normal face a target b)) ⌝ }
+    ensures answer { λ r. ⌜ r ≡ walkOrRefusal (length (now (out .entry))) face a target b normal ⌝ }
     ensures bytes { λ _. ⌜ now (out .exit) ≡ bufferAfter (now (out .entry)) face a target b normal ⌝ }
 {
     let number = refuse::input(face, a, target, b, normal);
@@ -59,7 +59,7 @@ pub fn walk(face: u8, a: Uv, target: u8, b: Uv, normal: Vector, out: &mut [u8]) 
 // limit. The record of each segment as it is closed, one after the other from the first byte on; all of them are there
 // where it arrives.
 fn put_segments(out: &mut [u8], face: u8, a: Uv, target: u8, b: Uv, normal: Vector) -> WalkAnswer
-    requires { ⌜ 320 ≤ length (now out) ⌝ }
+    requires { ⌜ Admitted face a b normal (length (now out)) ⌝ }
     ensures answer { λ r. ⌜ r ≡ walkAnswer (stopNumber 8 normal face target) (countOf 8 normal face target) ⌝ }
     ensures bytes { λ _. ⌜ (stopNumber 8 normal face target ≡ done → now (out .exit) ≡ stored (now (out .entry)) 0 (recordsOf (segments 8 normal face a target b))) ⌝ }
 {
@@ -69,7 +69,7 @@ fn put_segments(out: &mut [u8], face: u8, a: Uv, target: u8, b: Uv, normal: Vect
     let mut left: usize = 8;
     loop {
         if at == target {
-            record::put_record(out, to, at, 0, ends(begin, b));
+            put_segment(out, to, at, begin, b);
             return WalkAnswer {
                 number: DONE,
                 count: 9 - left,
@@ -89,7 +89,7 @@ fn put_segments(out: &mut [u8], face: u8, a: Uv, target: u8, b: Uv, normal: Vect
             };
         }
         let step = compute::step(at, n, target);
-        record::put_record(out, to, at, 0, ends(begin, step.exit));
+        put_segment(out, to, at, begin, step.exit);
         begin = compute::moved(at, step.exit, step.next);
         at = step.next;
         to += record::LENGTH;
@@ -97,15 +97,20 @@ fn put_segments(out: &mut [u8], face: u8, a: Uv, target: u8, b: Uv, normal: Vect
     }
 }
 
-fn ends(a: Uv, b: Uv) -> Ends
-    ensures { λ r. ⌜ r ≡ endsOf a b ⌝ }
+// The record of a segment, whose points are no NaNs: their bits are taken as they are.
+fn put_segment(out: &mut [u8], to: usize, face: u8, a: Uv, b: Uv)
+    requires { ⌜ Numbers a × Numbers b ⌝ }
+    ensures { λ _. ⌜ now (out .exit) ≡ placed (now (out .entry)) to (recordBytes face 0 (endsOf a b)) ⌝ }
 {
-    Ends {
-        au: a.u,
-        av: a.v,
-        bu: b.u,
-        bv: b.v,
-    }
+    record::put_words(
+        out,
+        to,
+        face as u64,
+        f64::to_bits(a.u),
+        f64::to_bits(a.v),
+        f64::to_bits(b.u),
+        f64::to_bits(b.v),
+    );
 }
 
 // The first n bytes of one slice to the front of another; both have as many.

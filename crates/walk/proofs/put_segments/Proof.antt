@@ -1,4 +1,4 @@
--- `put_segments` is the walk's number and count, and where it arrives its records are stored. The loop's invariant: what is left of the walk has its number, and with the faces behind it its count; its records fit at `to`, and stored there they give what all would have given.
+-- `put_segments` is the walk's number and count, and where it arrives its records are stored. The loop's invariant: what is left of the walk has its number, and with the faces behind it its count; its records fit at `to`, and stored there they give what all would have given; its face is one, and the point where it begins is no NaN.
 use Prim.Native.Nat.{_+_, _-_, _*_, _≤_, _<_}
 use mathlib.Core.Path.{_≡_, refl, sym, _∙_}
 use native.Mathlib.Omega.{arith}
@@ -7,9 +7,11 @@ use borrow.Author.Needs.{needs}
 use borrow.Author.Tests.{not-true, not-false}
 use Rattle.buffer.specs.Bytes.{stored}
 use Rattle.buffer.proofs.Stored.{placed-length}
+use Rattle.walk.specs.Inner.{Numbers}
 use Rattle.walk.specs.Walk.{stopNumber, segments, countOf, recordsOf}
 use Rattle.walk.proofs.Stops.{answer-done, answer-other, at-target, at-miss, at-limit, goes-on}
 use Rattle.walk.proofs.Step.{tested, exit-is, next-is}
+use Rattle.walk.proofs.Points.{exit-numbers, entered}
 use Rattle.walk.proofs.Records as records
 use Rattle.walk.proofs.put_segments.Statement.{statement}
 use Rattle.walk.proofs.put_segments.Tie as tie
@@ -21,33 +23,31 @@ Inv-loop out₀ face target b normal at₀ begin₀ to₀ left₀ out at begin t
     × (8 - left + countOf left normal at target ≡ countOf 8 normal face target)
     × (to + length (recordsOf (segments left normal at begin target b)) ≤ length out)
     × (stored out to (recordsOf (segments left normal at begin target b)) ≡ stored out₀ 0 (recordsOf (segments 8 normal face begin₀ target b)))
+    × (at ≤ 5) × Numbers begin
 
 abbrev μ-loop : tie.MeasureT-loop
 μ-loop out₀ face target b normal at₀ begin₀ to₀ left₀ out at begin to left = left
 
 loop-holds : tie.Need-loop-holds Inv-loop μ-loop
-loop-holds c = let g = c .before .args in (omega arith, omega arith, refl, refl, omega arith, omega (arith, records.records-within 8 (g .normal) (g .face) (g .a) (g .target) (g .b)), refl)
+loop-holds c = let g = c .before .args in (omega arith, omega arith, refl, refl, omega arith, omega (arith, records.records-within 8 (g .normal) (g .face) (g .a) (g .target) (g .b), c .before .pre .room), refl, c .before .pre .face, c .before .pre .begins)
 
-ends-requires : tie.Need-ends-requires Inv-loop μ-loop
-ends-requires c κs = search needs
+put-segment-requires : tie.Need-put-segment-requires Inv-loop μ-loop
+put-segment-requires c κs = (c .before .before .loop .inv .8, c .before .before .before .before .pre .ends)
 
-put-record-requires : tie.Need-put-record-requires Inv-loop μ-loop
-put-record-requires c κs = search needs
-
-sub-t18 : tie.Need-sub-t18 Inv-loop μ-loop
-sub-t18 c = omega arith
+sub-t17 : tie.Need-sub-t17 Inv-loop μ-loop
+sub-t17 c = omega arith
 
 same-length : tie.Need-same-length Inv-loop μ-loop
-same-length c = placed-length _ _ _ _ (c .before .before .put-record .ensures) ∙ c .before .before .before .before .before .before .loop .inv .2
+same-length c = placed-length _ _ _ _ (c .before .before .put-segment .ensures) ∙ c .before .before .before .before .before .loop .inv .2
 
 returns : tie.Need-returns Inv-loop μ-loop
 returns c =
     let d = c .before .before in
-    let i = d .before .before .before in
+    let i = d .before .before in
     let l = i .before .loop in
     let w = at-target _ (l .at) _ (l .left) (l .inv .0) (i .if1 .taken) in (
       answer-done _ _ _ _ refl (sym (l .inv .3) ∙ w .0) (omega (arith, w .1, l .inv .4)),
-      λ z. records.last-stored (l .out) _ (l .to) _ (l .at) (l .begin) _ _ _ (l .left) (l .inv .0) (l .inv .5) (d .put-record .ensures) (i .if1 .taken) (d .before .ends .ensures) ∙ l .inv .6,
+      λ z. records.last-stored (l .out) _ (l .to) _ (l .at) (l .begin) _ _ (l .left) (l .inv .0) (l .inv .5) (i .if1 .taken) (d .put-segment .ensures) ∙ l .inv .6,
     )
 
 face-xyz-to-uvw-requires : tie.Need-face-xyz-to-uvw-requires Inv-loop μ-loop
@@ -81,11 +81,15 @@ returns-3 c =
 step-requires : tie.Need-step-requires Inv-loop μ-loop
 step-requires c κs = search needs
 
-ends-requires-2 : tie.Need-ends-requires-2 Inv-loop μ-loop
-ends-requires-2 c κs = search needs
-
-put-record-requires-2 : tie.Need-put-record-requires-2 Inv-loop μ-loop
-put-record-requires-2 c κs = search needs
+put-segment-requires-2 : tie.Need-put-segment-requires-2 Inv-loop μ-loop
+put-segment-requires-2 c κs =
+    let s = c .before in
+    let o = s .before in
+    let f = o .before .before .before in
+    let l = f .before .before .loop in
+    let g = f .before .before .before .before .pre in
+    let m = tested _ (l .at) _ (f .face-xyz-to-uvw .ensures) _ _ (o .before .before .intersects-face .ensures) (not-false _ (o .before .if2 .left)) in
+    (l .inv .8, exit-numbers _ (g .finite) (g .some) (l .at) (l .inv .7) m _ (exit-is _ (l .at) _ (f .face-xyz-to-uvw .ensures) _ _ (s .step .ensures)))
 
 moved-requires : tie.Need-moved-requires Inv-loop μ-loop
 moved-requires c κs = search needs
@@ -102,18 +106,21 @@ loop-less c = omega arith
 loop-again : tie.Need-loop-again Inv-loop μ-loop
 loop-again c =
     let w = c .before .before .before in
-    let s = w .before .before .before in
+    let s = w .before .before in
     let o = s .before in
     let f = o .before .before .before in
     let i = f .before in
     let l = i .before .loop in
+    let q = i .before .before .before .pre in
     let u = f .face-xyz-to-uvw .ensures in
     let n = i .if1 .left in
+    let e = exit-is _ (l .at) _ u _ _ (s .step .ensures) in
     let g = next-is _ (l .at) _ u _ _ (s .step .ensures) in
     let m = tested _ (l .at) _ u _ _ (o .before .before .intersects-face .ensures) (not-false _ (o .before .if2 .left)) in
     let k = goes-on _ (l .at) _ (l .left) _ (l .inv .0) n m g in
-    let a = records.goes-on (l .out) _ (l .to) _ (l .at) (l .begin) _ _ _ (l .left) (l .inv .0) (l .inv .5) (w .put-record2 .ensures) _ _ _ n (exit-is _ (l .at) _ u _ _ (s .step .ensures)) (w .before .ends2 .ensures) g (c .moved .ensures) in
-    (omega (arith, o .if3 .left), omega arith, a .long ∙ l .inv .2, k .0 ∙ l .inv .3, omega (arith, k .1, l .inv .4), a .room, a .same ∙ l .inv .6)
+    let a = records.goes-on (l .out) _ (l .to) _ (l .at) (l .begin) _ _ (l .left) (l .inv .0) (l .inv .5) _ _ _ n (w .put-segment2 .ensures) e g (c .moved .ensures) in
+    let t = entered _ (q .finite) (q .some) (l .at) (l .inv .7) m _ e _ _ g _ (c .moved .ensures) in
+    (omega (arith, o .if3 .left), omega arith, a .long ∙ l .inv .2, k .0 ∙ l .inv .3, omega (arith, k .1, l .inv .4), a .room, a .same ∙ l .inv .6, t .0, t .1)
 
 pub put-segments-spec : {M : Type 1} → statement M
 put-segments-spec =
@@ -122,9 +129,8 @@ put-segments-spec =
     Inv-loop
     μ-loop
     loop-holds
-    ends-requires
-    put-record-requires
-    sub-t18
+    put-segment-requires
+    sub-t17
     same-length
     returns
     face-xyz-to-uvw-requires
@@ -134,8 +140,7 @@ put-segments-spec =
     same-length-3
     returns-3
     step-requires
-    ends-requires-2
-    put-record-requires-2
+    put-segment-requires-2
     moved-requires
     add-to
     sub-left

@@ -1,12 +1,16 @@
 -- The entry `walk`: a case for each way out.
-use mathlib.Core.Path.{refl, ap, _∙_}
+use mathlib.Core.Path.{refl, sym, _∙_}
 use native.Mathlib.Omega.{arith}
-use lib.ListN.{length}
 use borrow.Author.Needs.{needs}
-use Rattle.buffer.proofs.Stored.{length-stored}
+use Rattle.cube.specs.Vector.{HandedIn}
+use Rattle.walk.proofs.Admitted.{fine}
 use Rattle.walk.proofs.Exits.{aside-holds, aside-taken, by-input, by-stop, by-short, by-done}
 use Rattle.walk.proofs.walk.Statement.{statement}
 use Rattle.walk.proofs.walk.Tie as tie
+
+-- the normal's floats are values of binary64, as all floats of the language are
+handed : (c : tie.Start) → HandedIn (c .args .normal)
+handed c = record { x = search needs; y = search needs; z = search needs }
 
 input-requires : tie.Need-input-requires
 input-requires c κs = search needs
@@ -18,7 +22,12 @@ slice-aggregate-put-segments : tie.Need-slice-aggregate-put-segments
 slice-aggregate-put-segments c = refl
 
 put-segments-requires : tie.Need-put-segments-requires
-put-segments-requires c κs = search needs
+put-segments-requires c κs =
+    let i = c .before in
+    let s = i .before .before .before in
+    let h = s .args in
+    let g = fine (h .face) (h .a) (h .target) (h .b) (h .normal) (handed s) (sym (i .before .input .ensures) ∙ i .if1 .left) in
+    record { face = g .face; begins = g .begins; ends = g .ends; finite = g .normal .finite; some = g .normal .some; room = omega arith }
 
 returns-2 : tie.Need-returns-2
 returns-2 c =
