@@ -7,7 +7,8 @@
  * by value, and no other function writes anywhere but its answer.
  *
  * All floats are IEEE 754 binary64, round to nearest, ties to even, which is how a C program starts: a caller that has
- * set another rounding, or flushes subnormals to zero, sets that back before a call. A bool holds 0 or 1.
+ * set another rounding, or flushes subnormals to zero, sets that back before a call. A bool holds 0 or 1. Where finite
+ * arguments overflow an answer may hold an infinity or a NaN; which of the NaN's bit patterns it is, is not said.
  *
  * "Of these numbers" below means: where two would apply, the first of them in the order given is answered. */
 #ifndef UMBLACET_H
