@@ -9,7 +9,7 @@ use Rattle.float.specs.Float.{_⊘_, oneF, magnitudeOf}
 use Rattle.float.proofs.Negated.{neg-neg, neg-size, div-turn}
 use Rattle.cube.specs.Vector.{vec}
 use Rattle.cube.specs.Faces.{byFace, along, absolute, uv, uvOf, pointAt, uvwOf}
-use Rattle.cube.specs.Promises.{axisOf}
+use Rattle.cube.specs.Promises.{ownAxis}
 use Rattle.cube.specs.declared.vector.Vector.{Vector}
 use Rattle.cube.proofs.Six.{six, upTo, at}
 
@@ -22,9 +22,9 @@ unfolding along byFace
 neg-along p = six (λ h. neg (along h p) ≡ along (back h) p) refl refl refl (neg-neg (p .x)) (neg-neg (p .y)) (neg-neg (p .z))
 
 -- a direction and its axis: the same absolute coordinate
-pub along-size : (p : Vector) (h : ℕ) → h ≤ 5 → magnitudeOf (along h p) ≡ absolute (axisOf h) p
+pub along-size : (p : Vector) (h : ℕ) → h ≤ 5 → magnitudeOf (along h p) ≡ absolute (ownAxis h) p
 unfolding along byFace
-along-size p = six (λ h. magnitudeOf (along h p) ≡ absolute (axisOf h) p) refl refl refl (neg-size (p .x)) (neg-size (p .y)) (neg-size (p .z))
+along-size p = six (λ h. magnitudeOf (along h p) ≡ absolute (ownAxis h) p) refl refl refl (neg-size (p .x)) (neg-size (p .y)) (neg-size (p .z))
 
 -- ---- three directions of a vector, and a direction of those three
 abbrev turned : ℕ → ℕ → ℕ → Vector → Vector

@@ -14,7 +14,7 @@ use Rattle.float.proofs.Size.{size-finite}
 use Rattle.float.proofs.Whole.{le-or-lt}
 use Rattle.cube.specs.Vector.{finiteVector}
 use Rattle.cube.specs.Faces.{along, absolute, greater, faceOf}
-use Rattle.cube.specs.Promises.{axisOf, Greatest}
+use Rattle.cube.specs.Promises.{ownAxis, Greatest}
 use Rattle.cube.specs.declared.vector.Vector.{Vector}
 use Rattle.cube.proofs.Six.{six, three}
 use Rattle.cube.proofs.Vectors.{along-finite}
@@ -61,7 +61,7 @@ module _ (p : Vector) (fine : finiteVector p ≡ true) where
       (λ no. record { axis = omega arith; most = each _ n (not-lt _ _ (num k (omega arith)) (num n h) no) (t .most); lowest = t .lowest })
 
   -- ---- the face: its axis, and 3 more when the coordinate is negative
-  named : (k f : ℕ) → f ≤ 5 → axisOf f ≡ k → leb 3 f ≡ lt (along k p) zeroF → Top p 3 k → Greatest p f
+  named : (k f : ℕ) → f ≤ 5 → ownAxis f ≡ k → leb 3 f ≡ lt (along k p) zeroF → Top p 3 k → Greatest p f
   named k f h e s t = record { face = h; most = rw e (λ i l. t .most i (omega arith)); lowest = rw e (t .lowest); sign = rw e s }
 
   pub face-greatest : Greatest p (faceOf p)
@@ -71,19 +71,19 @@ module _ (p : Vector) (fine : finiteVector p ≡ true) where
       let t : Top p 3 k = next 2 (greater p 0 1) (omega arith) (next 1 0 (omega arith) first) in
       let K : k < 3 = t .axis in
       cases (Greatest p) (lt (along k p) zeroF) (k + 3) k
-      (λ e. named k (k + 3) (omega arith) (three (λ i. axisOf (i + 3) ≡ i) refl refl refl k (omega arith)) (three (λ i. leb 3 (i + 3) ≡ true) refl refl refl k (omega arith) ∙ sym e) t)
-      (λ e. named k k (omega arith) (three (λ i. axisOf i ≡ i) refl refl refl k (omega arith)) (three (λ i. leb 3 i ≡ false) refl refl refl k (omega arith) ∙ sym e) t)
+      (λ e. named k (k + 3) (omega arith) (three (λ i. ownAxis (i + 3) ≡ i) refl refl refl k (omega arith)) (three (λ i. leb 3 (i + 3) ≡ true) refl refl refl k (omega arith) ∙ sym e) t)
+      (λ e. named k k (omega arith) (three (λ i. ownAxis i ≡ i) refl refl refl k (omega arith)) (three (λ i. leb 3 i ≡ false) refl refl refl k (omega arith) ∙ sym e) t)
 
 -- ---- no other number: the axis is the same, by `most` and `lowest`, and the sign
-no-lower : (p : Vector) (f g : ℕ) → Greatest p f → Greatest p g → axisOf f < axisOf g → ⊥
-no-lower p f g a b h = true≢false (sym (b .lowest (axisOf f) h) ∙ le-not-lt _ _ (a .most (axisOf g) (omega arith)))
+no-lower : (p : Vector) (f g : ℕ) → Greatest p f → Greatest p g → ownAxis f < ownAxis g → ⊥
+no-lower p f g a b h = true≢false (sym (b .lowest (ownAxis f) h) ∙ le-not-lt _ _ (a .most (ownAxis g) (omega arith)))
 
-whole : (f : ℕ) → f ≤ 5 → f ≡ axisOf f + cond (leb 3 f) 3 0
-whole = six (λ f. f ≡ axisOf f + cond (leb 3 f) 3 0) refl refl refl refl refl refl
+whole : (f : ℕ) → f ≤ 5 → f ≡ ownAxis f + cond (leb 3 f) 3 0
+whole = six (λ f. f ≡ ownAxis f + cond (leb 3 f) 3 0) refl refl refl refl refl refl
 
 pub face-only : (p : Vector) (f g : ℕ) → Greatest p f → Greatest p g → f ≡ g
 face-only p f g a b =
-    let e : axisOf f ≡ axisOf g = elim (le-or-lt (axisOf f) (axisOf g)) [
+    let e : ownAxis f ≡ ownAxis g = elim (le-or-lt (ownAxis f) (ownAxis g)) [
       | inl l ↦ elim (eq-or-lt-of-le l) [ inl e ↦ e | inr h ↦ absurd (no-lower p f g a b h) ]
       | inr h ↦ absurd (no-lower p g f b a h)
     ] in

@@ -18,7 +18,7 @@ use Rattle.answer.specs.Answer.{done}
 use Rattle.cube.specs.Vector.{vec, finiteVector, isZero}
 use Rattle.cube.specs.Faces.{byFace, along, absolute, faceOf, pointAt}
 use Rattle.cube.specs.Refuse.{cubeRefusal, vectorRefusal, sideNumber, sideRefusal}
-use Rattle.cube.specs.Promises.{axisOf, Greatest, ReadBack}
+use Rattle.cube.specs.Promises.{ownAxis, Greatest, ReadBack}
 use Rattle.cube.specs.declared.vector.Vector.{Vector}
 use Rattle.cube.proofs.Six.{six, three, upTo, at, both}
 use Rattle.cube.proofs.Directions.{along-size, uv-is, atPoint, along-point, point-u, point-v, point-w}
@@ -31,7 +31,7 @@ one-is = refl
 
 -- ---- an axis of the point is 1 in size where it is the face's own, and there alone
 right : ℕ → ℕ → Bool
-right f i = leb (atPoint f i) 5 && Bool·beq (eqb (axisOf (atPoint f i)) 2) (eqb i (axisOf f))
+right f i = leb (atPoint f i) 5 && Bool·beq (eqb (ownAxis (atPoint f i)) 2) (eqb i (ownAxis f))
 
 all-right : upTo 5 (λ f. upTo 2 (λ i. right f i)) ≡ true
 unfolding right atPoint byFace
@@ -43,15 +43,15 @@ beq-is true false e = absurd (true≢false (sym e))
 beq-is false true e = absurd (true≢false (sym e))
 beq-is false false e = refl
 
-right-at : (f i : ℕ) → f ≤ 5 → i ≤ 2 → (atPoint f i ≤ 5) × (eqb (axisOf (atPoint f i)) 2 ≡ eqb i (axisOf f))
+right-at : (f i : ℕ) → f ≤ 5 → i ≤ 2 → (atPoint f i ≤ 5) × (eqb (ownAxis (atPoint f i)) 2 ≡ eqb i (ownAxis f))
 unfolding right
 right-at f i F I =
     let (a, b) = both (leb (atPoint f i) 5) _ (at 2 (λ i. right f i) (at 5 (λ f. upTo 2 (λ i. right f i)) all-right f F) i I) in
     (leb-true (atPoint f i) 5 a, beq-is _ _ b)
 
-point-sign : (u v : Float) (f : ℕ) → f ≤ 5 → leb 3 f ≡ lt (along (axisOf f) (pointAt f u v)) zeroF
+point-sign : (u v : Float) (f : ℕ) → f ≤ 5 → leb 3 f ≡ lt (along (ownAxis f) (pointAt f u v)) zeroF
 unfolding pointAt along byFace lt neg ofBits
-point-sign u v = six (λ f. leb 3 f ≡ lt (along (axisOf f) (pointAt f u v)) zeroF) refl refl refl refl refl refl
+point-sign u v = six (λ f. leb 3 f ≡ lt (along (ownAxis f) (pointAt f u v)) zeroF) refl refl refl refl refl refl
 
 -- ---- so it points at its own face
 module _ (u v : Float) (hu : lt (magnitudeOf u) oneF ≡ true) (hv : lt (magnitudeOf v) oneF ≡ true) (f : ℕ) (F : f ≤ 5) where
@@ -61,30 +61,30 @@ module _ (u v : Float) (hu : lt (magnitudeOf u) oneF ≡ true) (hv : lt (magnitu
   abbrev p : Vector
   p = pointAt f u v
 
-  size-is : (i : ℕ) → i ≤ 2 → absolute i p ≡ absolute (axisOf (atPoint f i)) q
+  size-is : (i : ℕ) → i ≤ 2 → absolute i p ≡ absolute (ownAxis (atPoint f i)) q
   size-is i I = ap magnitudeOf (along-point u v f i F (omega arith)) ∙ along-size q (atPoint f i) (right-at f i F I .0)
 
   less : (k : ℕ) → k ≤ 2 → (k ≡ 2 → ⊥) → lt (absolute k q) (absolute 2 q) ≡ true
   unfolding along byFace magnitudeOf ofBits
   less = three (λ k. (k ≡ 2 → ⊥) → lt (absolute k q) (absolute 2 q) ≡ true) (λ n. hu) (λ n. hv) (λ n. absurd (n refl))
 
-  own : absolute (axisOf f) p ≡ absolute 2 q
+  own : absolute (ownAxis f) p ≡ absolute 2 q
   own =
-      let i = axisOf f in
+      let i = ownAxis f in
       let I : i ≤ 2 = omega arith in
-      size-is i I ∙ ap (λ (k : ℕ). absolute k q) (eqb-true (axisOf (atPoint f i)) 2 (right-at f i F I .1 ∙ eq-eqb i i refl))
+      size-is i I ∙ ap (λ (k : ℕ). absolute k q) (eqb-true (ownAxis (atPoint f i)) 2 (right-at f i F I .1 ∙ eq-eqb i i refl))
 
-  other : (i : ℕ) → i ≤ 2 → (i ≡ axisOf f → ⊥) → lt (absolute i p) (absolute (axisOf f) p) ≡ true
+  other : (i : ℕ) → i ≤ 2 → (i ≡ ownAxis f → ⊥) → lt (absolute i p) (absolute (ownAxis f) p) ≡ true
   other i I n =
-      let k = axisOf (atPoint f i) in
-      rw (size-is i I, own) (less k (omega arith) (eqb-false k 2 (right-at f i F I .1 ∙ ne-eqb i (axisOf f) n)))
+      let k = ownAxis (atPoint f i) in
+      rw (size-is i I, own) (less k (omega arith) (eqb-false k 2 (right-at f i F I .1 ∙ ne-eqb i (ownAxis f) n)))
 
   itself : le (absolute 2 q) (absolute 2 q) ≡ true
   unfolding along byFace magnitudeOf le ofBits
   itself = refl
 
-  most : (i : ℕ) → i ≤ 2 → le (absolute i p) (absolute (axisOf f) p) ≡ true
-  most i I = elim (ℕ-discrete i (axisOf f)) [ yes e ↦ rw (e, own) itself | no n ↦ lt-le _ _ (other i I n) ]
+  most : (i : ℕ) → i ≤ 2 → le (absolute i p) (absolute (ownAxis f) p) ≡ true
+  most i I = elim (ℕ-discrete i (ownAxis f)) [ yes e ↦ rw (e, own) itself | no n ↦ lt-le _ _ (other i I n) ]
 
   point-greatest : Greatest p f
   point-greatest = record { face = F; most = most; lowest = λ i l. other i (omega arith) (λ e. omega arith); sign = point-sign u v f F }

@@ -11,7 +11,7 @@ use Rattle.float.proofs.Quotient as Quotient
 use Rattle.float.proofs.Quotient.{quotient-unit}
 use Rattle.cube.specs.Vector.{finiteVector, isZero}
 use Rattle.cube.specs.Faces.{along, uvOf}
-use Rattle.cube.specs.Promises.{axisOf, Greatest, InUnit, InSquare}
+use Rattle.cube.specs.Promises.{ownAxis, Greatest, InUnit, InSquare}
 use Rattle.cube.specs.declared.vector.Vector.{Vector}
 use Rattle.cube.proofs.Directions.{along-size, uDir, vDir, uDir-le, vDir-le, uv-is}
 use Rattle.cube.proofs.Vectors.{along-finite, all-zero}
@@ -30,7 +30,7 @@ module _ (p : Vector) (fine : finiteVector p ≡ true) (some : isZero p ≡ fals
   F = own .face
 
   most : (h : ℕ) → h ≤ 5 → le (magnitudeOf (along h p)) (magnitudeOf (along f p)) ≡ true
-  most h H = rw (along-size p h H, along-size p f F) (own .most (axisOf h) (omega arith))
+  most h H = rw (along-size p h H, along-size p f F) (own .most (ownAxis h) (omega arith))
 
   not-zero : eq (along f p) (fin false 0 (pos 0)) ≡ false
   not-zero = go (eq (along f p) (fin false 0 (pos 0))) refl

@@ -16,15 +16,15 @@ use Rattle.cube.specs.declared.compute.Uv.{Uv}
 -- ---- face: greatest absolute coordinate, ties to the lower axis; 3 more when it is negative
 
 -- the axis of a face: x is 0, y 1, z 2
-abbrev pub axisOf : ℕ → ℕ
-axisOf f = f % 3
+abbrev pub ownAxis : ℕ → ℕ
+ownAxis f = f % 3
 
 -- No absolute coordinate of p is greater than that of f's axis, those of lower axes are less, and f is 3 or more exactly when the coordinate is negative.
 pub record Greatest (p : Vector) (f : ℕ) : Type 0 where
   pub face : f ≤ 5
-  pub most : (i : ℕ) → i ≤ 2 → le (absolute i p) (absolute (axisOf f) p) ≡ true
-  pub lowest : (i : ℕ) → i < axisOf f → lt (absolute i p) (absolute (axisOf f) p) ≡ true
-  pub sign : leb 3 f ≡ lt (along (axisOf f) p) zeroF
+  pub most : (i : ℕ) → i ≤ 2 → le (absolute i p) (absolute (ownAxis f) p) ≡ true
+  pub lowest : (i : ℕ) → i < ownAxis f → lt (absolute i p) (absolute (ownAxis f) p) ≡ true
+  pub sign : leb 3 f ≡ lt (along (ownAxis f) p) zeroF
 
 -- ---- (u, v): from xyz_to_face_uv both lie in -1..1
 
