@@ -17,11 +17,15 @@ magnitude-requires-3 c κs = search needs
 
 returns : tie.Need-returns
 unfolding meetsFace
-returns c = then-is _ _ _ _ (rw (c .before .magnitude3 .ensures, c .before .before .magnitude2 .ensures, c .before .before .before .magnitude .ensures) at (c .if1 .taken)) (rw (c .before .magnitude3 .ensures, c .before .before .magnitude2 .ensures, c .before .before .before .magnitude .ensures))
+returns c =
+    let m = c .before in
+    then-is _ _ _ _ (simp (m .magnitude3 .ensures, m .before .magnitude2 .ensures, m .before .before .magnitude .ensures) at (c .if1 .taken)) (simp (m .magnitude3 .ensures, m .before .magnitude2 .ensures, m .before .before .magnitude .ensures))
 
 returns-2 : tie.Need-returns-2
 unfolding meetsFace
-returns-2 c = else-is _ _ _ _ (rw (c .before .magnitude3 .ensures, c .before .before .magnitude2 .ensures, c .before .before .before .magnitude .ensures) at (c .if1 .left)) refl
+returns-2 c =
+    let m = c .before in
+    else-is _ _ _ _ (simp (m .magnitude3 .ensures, m .before .magnitude2 .ensures, m .before .before .magnitude .ensures) at (c .if1 .left)) refl
 
 pub intersects-face-spec : {M : Type 1} → statement M
 intersects-face-spec =

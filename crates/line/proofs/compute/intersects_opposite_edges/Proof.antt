@@ -19,15 +19,15 @@ magnitude-requires-4 c κs = search needs
 
 returns : tie.Need-returns
 unfolding passesOppositeEdges
-returns c = then-is _ _ _ _ (rw (c .before .before .magnitude4 .ensures, c .before .before .before .magnitude3 .ensures, c .before .before .before .before .magnitude2 .ensures, c .before .before .before .before .before .magnitude .ensures) at (c .before .if1 .taken)) (then-is _ _ _ _ (rw (c .before .before .before .before .magnitude2 .ensures, c .before .before .before .before .before .magnitude .ensures) at (c .if2 .taken)) (rw (c .before .before .before .magnitude3 .ensures, c .before .before .before .before .magnitude2 .ensures, c .before .before .before .before .before .magnitude .ensures)))
+returns c = then-is _ _ _ _ (cc) (then-is _ _ _ _ (cc) (cc))
 
 returns-2 : tie.Need-returns-2
 unfolding passesOppositeEdges
-returns-2 c = then-is _ _ _ _ (rw (c .before .before .magnitude4 .ensures, c .before .before .before .magnitude3 .ensures, c .before .before .before .before .magnitude2 .ensures, c .before .before .before .before .before .magnitude .ensures) at (c .before .if1 .taken)) (else-is _ _ _ _ (rw (c .before .before .before .before .magnitude2 .ensures, c .before .before .before .before .before .magnitude .ensures) at (c .if2 .left)) (rw (c .before .before .before .magnitude3 .ensures, c .before .before .before .before .magnitude2 .ensures, c .before .before .before .before .before .magnitude .ensures)))
+returns-2 c = then-is _ _ _ _ (cc) (else-is _ _ _ _ (cc) (cc))
 
 returns-3 : tie.Need-returns-3
 unfolding passesOppositeEdges
-returns-3 c = else-is _ _ _ _ (rw (c .before .magnitude4 .ensures, c .before .before .magnitude3 .ensures, c .before .before .before .magnitude2 .ensures, c .before .before .before .before .magnitude .ensures) at (c .if1 .left)) (rw (c .before .magnitude4 .ensures, c .before .before .magnitude3 .ensures, c .before .before .before .magnitude2 .ensures, c .before .before .before .before .magnitude .ensures))
+returns-3 c = else-is _ _ _ _ (cc) (cc)
 
 pub intersects-opposite-edges-spec : {M : Type 1} → statement M
 intersects-opposite-edges-spec =
