@@ -18,7 +18,7 @@ clip-edge-requires c κs = search needs
 
 returns : tie.Need-returns
 unfolding answerOf
-returns c = cc
+returns c = rw (c .before .window-at .ensures, c .before .before .point-at2 .ensures, c .before .before .before .point-at .ensures) at (c .clip-edge .ensures)
 
 pub answer-of-spec : {M : Type 1} → statement M
 answer-of-spec = tie.close (tie.spec point-at-requires point-at-requires-2 window-at-requires clip-edge-requires returns)

@@ -15,7 +15,7 @@ float-at-requires-2 c κs = search needs
 
 returns : tie.Need-returns
 unfolding pointAt
-returns c = cc
+returns c = rw (c .float-at2 .ensures, c .before .float-at .ensures)
 
 pub point-at-spec : {M : Type 1} → statement M
 point-at-spec = tie.close (tie.spec float-at-requires add-float-at float-at-requires-2 returns)

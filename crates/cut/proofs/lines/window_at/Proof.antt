@@ -15,7 +15,7 @@ point-at-requires-2 c κs = search needs
 
 returns : tie.Need-returns
 unfolding windowAt
-returns c = cc
+returns c = rw (c .point-at2 .ensures, c .before .point-at .ensures)
 
 pub window-at-spec : {M : Type 1} → statement M
 window-at-spec = tie.close (tie.spec point-at-requires add-point-at point-at-requires-2 returns)

@@ -10,7 +10,7 @@ from-bits-requires : tie.Need-from-bits-requires
 from-bits-requires c κs = search needs
 
 returns : tie.Need-returns
-returns c = cc
+returns c = rw (c .before .word-at .ensures) at (c .from-bits .ensures)
 
 pub float-at-spec : {M : Type 1} → statement M
 float-at-spec = tie.close (tie.spec word-at-requires from-bits-requires returns)

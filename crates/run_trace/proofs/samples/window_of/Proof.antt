@@ -16,7 +16,7 @@ float-at-requires-4 : tie.Need-float-at-requires-4
 float-at-requires-4 c κs = search needs
 
 returns : tie.Need-returns
-returns c = cc
+returns c = rw (c .float-at4 .ensures, c .before .float-at3 .ensures, c .before .before .float-at2 .ensures, c .before .before .before .float-at .ensures)
 
 pub window-of-spec : {M : Type 1} → statement M
 window-of-spec =
