@@ -3,4 +3,5 @@ pub mod Reading
 pub mod Cutting
 pub mod Pieces
 pub mod Filled
+pub mod Blocks
 pub mod Promises

@@ -66,7 +66,7 @@ floats-split s i (suc n) m =
     let j : i + suc n ≡ i + 1 + n = omega arith in
     rw (z, j) (ap (λ (l : List Float). floatAt s (8 * i) ∷ l) (floats-split s (i + 1) n m))
 
-length-floats : (s : List ℕ) (i k : ℕ) → length (floatsFrom s i k) ≡ k
+pub length-floats : (s : List ℕ) (i k : ℕ) → length (floatsFrom s i k) ≡ k
 unfolding floatsFrom
 length-floats s i zero = refl
 length-floats s i (suc k) = ap suc (length-floats s (i + 1) k)

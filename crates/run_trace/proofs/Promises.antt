@@ -1,6 +1,6 @@
 -- The promises, proved.
 use Rattle.run_trace.specs.Promises.{Promises}
-use Rattle.run_trace.proofs.Pieces.{front, pieces}
+use Rattle.run_trace.proofs.Blocks.{pieces, whole, first-edges}
 
 pub promises : Promises
-promises = record { front = front; pieces = pieces }
+promises = record { pieces = pieces; whole = whole; first-edges = first-edges }

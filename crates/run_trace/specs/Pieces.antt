@@ -1,10 +1,16 @@
 -- A piece of the input: the sample that is carried over, where one is, and those of its bytes; and how pieces add up.
-use Prim.Native.Nat.{ℕ, _+_, _*_, _%_, _^_}
-use mathlib.Core.Bool.{Bool}
-use mathlib.Core.List.{List, _∷_}
+use Prim.Native.Nat.{ℕ, _+_, _*_, _%_, _^_, _≤_}
+use mathlib.Core.Path.{_≡_}
+use mathlib.Core.Bool.{Bool, true}
+use mathlib.Core.List.{List, [], _∷_, _++_}
 use lib.Ieee.{Float}
+use lib.ListN.{length}
 use Rattle.float.specs.Choice.{when_then_else_}
 use Rattle.plane.specs.declared.point.Point.{Point}
+use Rattle.plane.specs.declared.rect.Rect.{Rect}
+use Rattle.clip.specs.declared.Clipped.{Clipped}
+use Rattle.trace.specs.Trace.{traceCuts}
+use Rattle.trace.specs.Records.{recordsOf, howMany}
 use Rattle.trace.specs.declared.TraceAnswer.{TraceAnswer}
 use Rattle.run_trace.specs.declared.Counts.{Counts}
 use Rattle.run_trace.specs.Samples.{floatsOf, lastSample}
@@ -25,7 +31,27 @@ lastAfter p s = lastSample (after p (floatsOf s))
 unfoldable pub bytesFor : Bool → ℕ → ℕ
 bytesFor carried edges = when carried then 16 * edges else 16 * edges + 16
 
--- the counts with those of one more answer; they wrap at 2^64
+-- ---- an input in blocks: all but the last are whole samples, one at the least
+unfoldable pub Blocks : List (List ℕ) → Type 0
+Blocks [] = Unit {0}
+Blocks (s ∷ []) = Unit {0}
+Blocks (s ∷ t ∷ ss) = (length s % 16 ≡ 0) × ((16 ≤ length s) × Blocks (t ∷ ss))
+
+unfoldable pub joinedBlocks : List (List ℕ) → List ℕ
+joinedBlocks [] = []
+joinedBlocks (s ∷ ss) = s ++ joinedBlocks ss
+
+-- the records of each block's piece; the first block carries no sample over, and every other the last one before it
+unfoldable pub recordsOfBlocks : Rect → Bool → Point → List (List ℕ) → List ℕ
+recordsOfBlocks w carried p [] = []
+recordsOfBlocks w carried p (s ∷ ss) = recordsOf (traceCuts true w (pieceFloats carried p s)) ++ recordsOfBlocks w true (lastAfter p s) ss
+
+-- how many of their edges are of a kind
+unfoldable pub countOfBlocks : (Clipped → Bool) → Rect → Bool → Point → List (List ℕ) → ℕ
+countOfBlocks is w carried p [] = 0
+countOfBlocks is w carried p (s ∷ ss) = howMany is (traceCuts true w (pieceFloats carried p s)) + countOfBlocks is w true (lastAfter p s) ss
+
+-- ---- the counts with those of one more answer; they wrap at 2^64
 abbrev pub withAnswer : Counts → TraceAnswer → Counts
 withAnswer c a =
     record {

@@ -1,24 +1,33 @@
 -- What is promised of an input that is worked through in pieces. Statements only; proofs/Promises.antt has the proofs.
-use Prim.Native.Nat.{ℕ, _+_, _%_, _≤_}
+use Prim.Native.Nat.{ℕ, _*_, _%_, _≤_}
 use mathlib.Core.Path.{_≡_}
-use mathlib.Core.Bool.{true}
+use mathlib.Core.Bool.{Bool, true, false}
 use mathlib.Core.List.{List, _++_}
-use lib.Ieee.{Float}
 use lib.ListN.{length, take}
+use Rattle.plane.specs.Point.{origin}
+use Rattle.plane.specs.declared.point.Point.{Point}
 use Rattle.plane.specs.declared.rect.Rect.{Rect}
+use Rattle.clip.specs.declared.Clipped.{Clipped}
 use Rattle.trace.specs.Trace.{traceCuts}
+use Rattle.trace.specs.Records.{recordsOf, howMany}
 use Rattle.trace.specs.Promises.{Joined}
-use Rattle.run_trace.specs.Samples.{floatsIn, floatsOf, floatsInto, lastSample}
-use Rattle.run_trace.specs.Pieces.{after}
+use Rattle.run_trace.specs.Samples.{floatsOf}
+use Rattle.run_trace.specs.Pieces.{pieceFloats, lastAfter, bytesFor, Blocks, joinedBlocks, recordsOfBlocks, countOfBlocks}
+
+-- the edges of a piece
+abbrev pub pieceCuts : Rect → Bool → Point → List ℕ → List Clipped
+pieceCuts w carried p s = traceCuts true w (pieceFloats carried p s)
 
 pub record Promises : Type 0 where
-  -- what is cut of a buffer that bytes were read into: the floats that stood in its first two places, then those of the bytes
-  pub front : (xs : List Float) (s : List ℕ) → 2 + floatsIn s ≤ length xs
-      → take (2 + floatsIn s) (floatsInto xs 2 (floatsOf s)) ≡ take 2 xs ++ floatsOf s
-  -- A piece is the floats that stand before it, none or a sample, and those of the bytes s. The rest of the input, t, after
-  -- the last sample of the piece, gives the records and the counts that are lacking.
-  pub pieces : (w : Rect) (before : List Float) (s t : List ℕ)
-      → length before % 2 ≡ 0 → length s % 16 ≡ 0 → 16 ≤ length s
-      → Joined (traceCuts true w (before ++ floatsOf (s ++ t)))
-      (traceCuts true w (before ++ floatsOf s))
-      (traceCuts true w (after (lastSample (before ++ floatsOf s)) (floatsOf t)))
+  -- What is left of an input after a piece of whole samples, t, gives, after the last sample of the piece, the records and
+  -- the counts that are lacking.
+  pub pieces : (w : Rect) (carried : Bool) (p : Point) (s t : List ℕ) → length s % 16 ≡ 0 → 16 ≤ length s
+      → Joined (pieceCuts w carried p (s ++ t)) (pieceCuts w carried p s) (pieceCuts w true (lastAfter p s) t)
+  -- so an input in blocks has the records and the counts of the whole
+  pub whole : (w : Rect) (blocks : List (List ℕ)) → Blocks blocks
+      → (recordsOfBlocks w false origin blocks ≡ recordsOf (traceCuts true w (floatsOf (joinedBlocks blocks))))
+      × ((is : Clipped → Bool) → countOfBlocks is w false origin blocks ≡ howMany is (traceCuts true w (floatsOf (joinedBlocks blocks))))
+  -- the samples that the first k edges of a piece join have k edges, with the first k records
+  pub first-edges : (w : Rect) (carried : Bool) (p : Point) (s : List ℕ) (k : ℕ) → k ≤ length (pieceCuts w carried p s)
+      → let first = pieceCuts w carried p (take (bytesFor carried k) s) in
+      (length first ≡ k) × (recordsOf first ≡ take (k * 40) (recordsOf (pieceCuts w carried p s)))
