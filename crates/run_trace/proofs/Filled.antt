@@ -11,6 +11,7 @@ use Rattle.float.specs.Choice.{when_then_else_}
 use Rattle.float.proofs.Choice.{when-le}
 use Rattle.plane.specs.declared.point.Point.{Point}
 use Rattle.plane.specs.declared.rect.Rect.{Rect}
+use Rattle.trace.specs.Answers.{answerOf}
 use Rattle.trace.specs.declared.TraceAnswer.{TraceAnswer}
 use Rattle.run_trace.specs.Samples.{floatsIn, floatsOf, floatsInto, ownFloats, lastSample}
 use Rattle.run_trace.specs.Pieces.{after, pieceFloats, lastAfter}
@@ -50,3 +51,8 @@ module _ (p : Point) (s : List ℕ) (k : ℕ) (z : Float) (two : List Float) (n 
 
   pub last-of : (q : Point) → q ≡ lastSample (take n out) → q ≡ lastAfter p s
   last-of q h = h ∙ ap lastSample filled
+
+-- the answer for some bytes is that for the same bytes
+pub same-bytes : (carried : Bool) (p : Point) (w : Rect) (k : ℕ) (s t : List ℕ) (a : TraceAnswer)
+    → a ≡ answerOf (pieceFloats carried p s) w k → s ≡ t → a ≡ answerOf (pieceFloats carried p t) w k
+same-bytes carried p w k s t a h e = rw e at h

@@ -1,15 +1,17 @@
 -- A piece of the input: the sample that is carried over, where one is, and those of its bytes; and how pieces add up.
-use Prim.Native.Nat.{ℕ, _+_, _*_, _%_, _^_, _≤_}
+use Prim.Native.Nat.{ℕ, _+_, _*_, _/_, _%_, _^_, _≤_}
 use mathlib.Core.Path.{_≡_}
 use mathlib.Core.Bool.{Bool, true}
 use mathlib.Core.List.{List, [], _∷_, _++_}
+use lib.Dec.{leb}
 use lib.Ieee.{Float}
-use lib.ListN.{length}
+use lib.ListN.{length, take}
 use Rattle.float.specs.Choice.{when_then_else_}
 use Rattle.plane.specs.declared.point.Point.{Point}
 use Rattle.plane.specs.declared.rect.Rect.{Rect}
 use Rattle.clip.specs.declared.Clipped.{Clipped}
 use Rattle.trace.specs.Trace.{traceCuts}
+use Rattle.trace.specs.Answers.{answerOf}
 use Rattle.trace.specs.Records.{recordsOf, howMany}
 use Rattle.trace.specs.declared.TraceAnswer.{TraceAnswer}
 use Rattle.run_trace.specs.declared.Counts.{Counts}
@@ -30,6 +32,13 @@ lastAfter p s = lastSample (after p (floatsOf s))
 -- the bytes of the samples that so many first edges join
 unfoldable pub bytesFor : Bool → ℕ → ℕ
 bytesFor carried edges = when carried then 16 * edges else 16 * edges + 16
+
+-- the answer for the edges whose records were written whole, where so many bytes of a piece's records were: the piece's
+-- own, or that of the samples which these edges join
+abbrev pub writtenOf : TraceAnswer → ℕ → Bool → Point → List ℕ → Rect → ℕ → TraceAnswer
+writtenOf a taken carried p s w bytes =
+    when leb (a .edges) (taken / 40) then a
+    else answerOf (pieceFloats carried p (take (bytesFor carried (taken / 40)) s)) w bytes
 
 -- ---- an input in blocks: all but the last are whole samples, one at the least
 unfoldable pub Blocks : List (List ℕ) → Type 0

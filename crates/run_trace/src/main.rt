@@ -3,7 +3,7 @@
 //
 // The input is worked through in pieces of up to 4,096 samples, each but the first beginning with the
 // last sample of the piece before it. By the join law their records, one after the other, are those of
-// the whole trace, and their counts add up to its counts: specs/Promises.antt, `pieces`.
+// the whole trace, and their counts add up to its counts: specs/Promises.antt, `whole`.
 mod piece;
 mod samples;
 

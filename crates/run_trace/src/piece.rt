@@ -1,13 +1,11 @@
 // One piece of a trace, without the reading and the writing: its records, its answer, and the sample that
 // the next piece begins with.
-ghost use Prim.Native.Nat.{_*_, _/_, _^_, _≤_, _<_};
+ghost use Prim.Native.Nat.{_*_, _^_, _≤_, _<_};
 ghost use mathlib.Core.Path.{_≡_};
-ghost use lib.Dec.{leb};
 ghost use lib.ListN.{length, take};
-ghost use Rattle.float.specs.Choice.{when_then_else_};
 ghost use Rattle.trace.specs.Answers.{answerOf, bufferAfter};
 ghost use Rattle.run_trace.specs.Samples.{ownFloats, lastSample};
-ghost use Rattle.run_trace.specs.Pieces.{pieceFloats, lastAfter, bytesFor};
+ghost use Rattle.run_trace.specs.Pieces.{pieceFloats, lastAfter, bytesFor, writtenOf};
 use crate::samples;
 use plane::Point;
 use plane::Rect;
@@ -56,7 +54,7 @@ pub(crate) fn written(
     records: &mut [u8],
 ) -> TraceAnswer
     requires { ⌜ length (now bytes) ≤ 65520 ⌝ }
-    ensures { λ r. ⌜ r ≡ (when leb (answer .edges) (taken / 40) then answer else answerOf (pieceFloats carried before (take (bytesFor carried (taken / 40)) (now (bytes .entry)))) window (length (now (records .entry)))) ⌝ }
+    ensures { λ r. ⌜ r ≡ writtenOf answer taken carried before (now (bytes .entry)) window (length (now (records .entry))) ⌝ }
 {
     let edges = taken / 40;
     if answer.edges <= edges {

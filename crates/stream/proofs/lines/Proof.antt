@@ -1,7 +1,6 @@
 -- `lines` counts line ends.
 use Prim.Native.Nat.{_-_}
 use mathlib.Core.Logic.{⊎-elim}
-use mathlib.Core.Path.{refl}
 use native.Mathlib.Omega.{arith}
 use lib.ListN.{length}
 use Rattle.stream.proofs.Counting.{Counting, one-more, no-more, starts, ends}

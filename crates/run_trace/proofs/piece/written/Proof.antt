@@ -1,11 +1,9 @@
 -- `written` is the answer, or that of the samples whose edges were written.
 use mathlib.Core.Path.{refl, ap, _∙_}
 use native.Mathlib.Omega.{arith}
-use mathlib.Core.List.{List}
 use Prim.Native.Nat.{ℕ}
-use lib.ListN.{length, take, length-take}
-use Rattle.trace.specs.Answers.{answerOf}
-use Rattle.run_trace.specs.Pieces.{pieceFloats}
+use lib.ListN.{take, length-take}
+use Rattle.run_trace.proofs.Filled.{same-bytes}
 use Rattle.float.proofs.Choice.{when-le, when-gt}
 use borrow.Author.Needs.{needs}
 use Rattle.run_trace.proofs.piece.written.Statement.{statement}
@@ -31,12 +29,11 @@ same-length c = search needs
 
 returns-2 : tie.Need-returns-2
 returns-2 c =
-    let a = c .before .before .before .before .before .before .before .before .before .before .before .before .args in
-    let bytes = a .bytes .now in
+    let bytes = c .before .before .before .before .before .before .before .before .before .before .before .before .args .bytes .now in
     let n = c .before .before .before .before .before .before .before .bytes-for .ensures in
     let part = c .before .before .before .before .before .before .at-most .ensures .1 ∙ ap (λ (k : ℕ). take k bytes) n in
-    let same = ap (λ (s : List ℕ). answerOf (pieceFloats (a .carried) (a .before) s) (a .window) (length (a .records .now))) part in
-    when-gt _ _ _ _ _ (c .before .before .before .before .before .before .before .before .if1 .left) (c .before .before .before .cut-piece .ensures .0 ∙ same)
+    when-gt _ _ _ _ _ (c .before .before .before .before .before .before .before .before .if1 .left)
+    (same-bytes _ _ _ _ _ _ _ (c .before .before .before .cut-piece .ensures .0) part)
 
 pub written-spec : {M : Type 1} → statement M
 written-spec =
