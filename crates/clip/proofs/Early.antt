@@ -60,3 +60,11 @@ apart-box a b w f e =
 -- where the box and the test are what calls gave
 pub apart-early : (a b : Point) (w : Rect) → Fine a b w → (first : Rect) → first ≡ boxOf a b → (t : Bool) → t ≡ apart first w → t ≡ true → Missed ≡ clipped a b w
 apart-early a b w f first e t d h = apart-box a b w f (subst (λ (r : Rect). apart r w ≡ true) e (sym d ∙ h))
+
+-- the same where it is past on y alone
+or-right : (p q : Bool) → q ≡ true → (p || q) ≡ true
+or-right true q e = refl
+or-right false q e = e
+
+pub past-early : (a b : Point) (w : Rect) → Fine a b w → (first : Rect) → first ≡ boxOf a b → (t : Bool) → t ≡ past (first .y) (w .y) → t ≡ true → Missed ≡ clipped a b w
+past-early a b w f first e t d h = apart-early a b w f first e true (sym (or-right (past (first .x) (w .x)) _ (sym d ∙ h))) refl

@@ -1,5 +1,6 @@
 -- Cutting an edge to a window. Document 01, module 4, and what is promised of it.
 pub mod Cut
+pub mod Turns
 pub mod Refuse
 pub mod Early
 pub mod Answers

@@ -1,8 +1,8 @@
 // What the entries compute: any float goes in, NaN and infinities too, and nothing is refused.
 ghost use mathlib.Core.Path.{_≡_};
 ghost use mathlib.Core.Bool.{false};
-ghost use Rattle.float.specs.Choice.{when_then_else_};
-ghost use Rattle.clip.specs.Cut.{valueAt, inward, withEnd, movedEnd, sideCut, axisCut, sidesCut, negativeSlope, otherMoved, offLine, crossed, edgeMeets};
+ghost use Rattle.clip.specs.Cut.{valueAt, inward, withEnd, movedEnd, sideCut, axisCut, negativeSlope, otherMoved, offLine, crossed, edgeMeets};
+ghost use Rattle.clip.specs.Turns.{axisOf, axisX, axisY, sidesCut};
 use plane::Interval;
 use plane::Point;
 use plane::Rect;
@@ -35,60 +35,68 @@ pub const BOTH_AXES: u8 = 4;
 
 const ONE_AXIS: u8 = 2;
 
+// An axis as the cut sees it: the ends of the line along it, what is left of the bound, and the window.
+pub struct Axis {
+    pub a: f64,
+    pub b: f64,
+    pub bound: Interval,
+    pub clip: Interval,
+}
+
 // The sides of the window in turn, as many as asked for: low and high on axis x, then on axis y. Of the bound of the line
-// from a to b, what is left.
+// from a to b, what is left; the axes change places after each high side.
 //
 // It has this shape for the compiler. With the number unknown the loop is small enough to be taken into every caller, and
-// there, where the number is a constant, it is unrolled, the axes and sides become constants too, and no interval goes
-// through memory. A function between that fixes the number would be unrolled itself, grow past what is taken in, and stay
-// a call, which costs a random edge a third more (docs/DECISIONS.md).
+// there, where the number is a constant, it is unrolled, axes and sides are constants too, and no interval goes through
+// memory. A function between that fixes the number would be unrolled itself, grow past what is taken in, and stay a call,
+// which costs a random edge a third more. The axes change places in one branch, which adds nothing to the loop's size
+// where a choice for each float would (docs/DECISIONS.md).
 pub fn cut_sides(sides: u8, a: Point, b: Point, neg_slope: bool, clip: Rect, bound: Rect) -> BoxCut
-    ensures { λ r. ⌜ r ≡ sidesCut sides false false a b «neg_slope» clip (bound .x) (bound .y) ⌝ }
+    ensures { λ r. ⌜ r ≡ sidesCut sides false (axisX a b clip bound) (axisY a b clip bound) «neg_slope» ⌝ }
 {
-    let mut x = bound.x;
-    let mut y = bound.y;
-    let mut on_y = false;
+    let mut this = Axis::of(a.x, b.x, bound.x, clip.x);
+    let mut other = Axis::of(a.y, b.y, bound.y, clip.y);
     let mut high = false;
     let mut left = sides;
     while 0 < left {
         match clip_side(
             high,
-            first(on_y, a.x, a.y),
-            first(on_y, b.x, b.y),
-            first_of(on_y, x, y),
-            first(on_y, a.y, a.x),
-            first(on_y, b.y, b.x),
-            first_of(on_y, y, x),
+            this.a,
+            this.b,
+            this.bound,
+            other.a,
+            other.b,
+            other.bound,
             neg_slope,
-            first_of(on_y, clip.x, clip.y),
+            this.clip,
         ) {
             AxisCut::Left(s) => {
-                x = first_of(on_y, s.this, s.other);
-                y = first_of(on_y, s.other, s.this);
+                let t = Axis::of(this.a, this.b, s.this, this.clip);
+                let u = Axis::of(other.a, other.b, s.other, other.clip);
+                if high {
+                    this = u;
+                    other = t;
+                } else {
+                    this = t;
+                    other = u;
+                }
             }
             AxisCut::Gone => return BoxCut::Outside,
         }
-        on_y = high != on_y;
         high = !high;
         left -= 1;
     }
+    let x = this.bound;
+    let y = other.bound;
     BoxCut::Inside(Rect { x, y })
 }
 
-// Of two coordinates, or two intervals, the first, or the second where they change places.
-fn first(exchanged: bool, p: f64, q: f64) -> f64
-    ensures { λ r. ⌜ r ≡ (when exchanged then q else p) ⌝ }
-{
-    if exchanged { q } else { p }
-}
-
-fn first_of(exchanged: bool, p: Interval, q: Interval) -> Interval
-    ensures { λ r. ⌜ r ≡ (when exchanged then q else p) ⌝ }
-{
-    if exchanged {
-        return q;
+impl Axis {
+    fn of(a: f64, b: f64, bound: Interval, clip: Interval) -> Self
+        ensures { λ r. ⌜ r ≡ axisOf a b bound clip ⌝ }
+    {
+        Axis { a, b, bound, clip }
     }
-    p
 }
 
 pub fn slope_is_negative(a: Point, b: Point) -> bool
@@ -120,8 +128,8 @@ pub fn clip_bound_axis(
     };
     match cut_sides(ONE_AXIS, a, b, neg_slope, window, bound) {
         BoxCut::Inside(r) => {
-            let this = r.x;
-            let other = r.y;
+            let this = r.y;
+            let other = r.x;
             AxisCut::Left(Both { this, other })
         }
         BoxCut::Outside => AxisCut::Gone,
@@ -129,7 +137,7 @@ pub fn clip_bound_axis(
 }
 
 // One side of the window, where the bound reaches past it.
-pub fn clip_side(
+fn clip_side(
     high: bool,
     a0: f64,
     b0: f64,

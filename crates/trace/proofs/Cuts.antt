@@ -4,20 +4,17 @@ use native.Mathlib.Omega.{arith}
 use mathlib.Core.Path.{_≡_, refl, ap, _∙_}
 use mathlib.Core.Bool.{Bool, true, false}
 use mathlib.Core.List.{List, [], _∷_}
-use lib.Dec.{eqb}
 use lib.Ieee.{Float}
 use lib.ListN.{length, length-append}
 use Rattle.float.specs.Choice.{when_then_else_}
 use Rattle.plane.specs.declared.point.Point.{Point}
 use Rattle.plane.specs.declared.rect.Rect.{Rect}
 use Rattle.record.proofs.Words.{length-record}
-use Rattle.clip.specs.Refuse.{windowFine}
-use Rattle.clip.specs.Answers.{clipped, numberOf, pointsOf}
+use Rattle.clip.specs.Answers.{numberOf, pointsOf}
 use Rattle.clip.specs.declared.Clipped.{Clipped}
 use Rattle.clip.specs.declared.Clipped.the-variants.{Kept, Missed, Refused}
 use Rattle.trace.specs.Trace.{samplesOf, cutsFrom, cutsOf, traceCuts}
 use Rattle.trace.specs.Records.{endsOf, cutBytes, recordsOf, isKept, isMissed, isRefused, howMany}
-use Rattle.trace.proofs.OneEdge.{kinds}
 
 -- ---- how many
 pub length-samples : (fs : List Float) → length (samplesOf fs) ≡ length fs / 2
@@ -68,17 +65,9 @@ unfolding howMany
 all-kinds [] = refl
 all-kinds (c ∷ cs) = one-kind c _ _ _ _ (all-kinds cs)
 
-pub one-most : (b : Bool) {n : ℕ} → n ≡ (when b then 1 else 0) → n ≤ 1
-unfolding when_then_else_
-one-most true e = omega arith
-one-most false e = omega arith
-
--- ---- an edge in a window that is not refused is kept, missed or refused with 2, and its number tells which
-module _ (a b : Point) (w : Rect) (f : windowFine w ≡ true) where
-  pub kept-number : isKept (clipped a b w) ≡ eqb (numberOf (clipped a b w)) 0
-  unfolding isKept numberOf
-  kept-number = kinds (λ c. isKept c ≡ eqb (numberOf c) 0) a b w f (λ s. refl) refl refl
-
-  pub refused-number : isRefused (clipped a b w) ≡ eqb (numberOf (clipped a b w)) 2
-  unfolding isRefused numberOf
-  refused-number = kinds (λ c. isRefused c ≡ eqb (numberOf c) 2) a b w f (λ s. refl) refl refl
+-- an edge is of one kind at most
+pub one-kind-most : (c : Clipped) → (when isKept c then 1 else 0) + (when isRefused c then 1 else 0) ≤ 1
+unfolding isKept isRefused when_then_else_
+one-kind-most (Kept s) = omega arith
+one-kind-most Missed = omega arith
+one-kind-most (Refused n) = omega arith

@@ -1,16 +1,17 @@
 -- What each way out of the entry leaves: the answer, and the lent bytes.
-use Prim.Native.Nat.{ℕ, _-_, _/_, _%_, _≤_}
+use Prim.Native.Nat.{ℕ, _-_, _*_, _/_, _%_, _≤_}
 use native.Mathlib.Omega.{arith}
 use mathlib.Core.Path.{_≡_, refl, sym, ap, _∙_}
 use mathlib.Core.Bool.{Bool, true}
-use mathlib.Core.List.{List}
+use mathlib.Core.List.{List, [], _++_, append-nil}
 use lib.Ieee.{Float}
-use lib.ListN.{length}
+use lib.ListN.{length, take, drop, drop-of-length-le}
+use lib.Seq.{length-take-le}
 use borrow.Author.Tests.{eqb-true, leb-true}
 use Rattle.float.proofs.Choice.{split, and-parts}
 use Rattle.answer.specs.Answer.{beside}
 use Rattle.answer.proofs.Beside.{ask-done, ask-other}
-use Rattle.buffer.specs.Bytes.{stored}
+use Rattle.buffer.specs.Bytes.{stored, followedBy}
 use Rattle.buffer.proofs.Stored.{stored-front}
 use Rattle.plane.specs.declared.rect.Rect.{Rect}
 use Rattle.clip.specs.Refuse.{windowFine}
@@ -32,15 +33,25 @@ module _ (fs : List Float) (w : Rect) (n bytes : ℕ) (d : n ≡ inOrder (traceF
   number-is : n ≡ traceNumber fs w bytes
   number-is = d ∙ ap (λ (k : ℕ). inOrder (traceFine (length fs)) (windowFine w) (roomFor k bytes)) (sym (length-trace true w fs))
 
-  -- what the records need
-  pub fits : n ≡ 0 → Admitted fs w bytes
-  fits z =
+  -- what the records need: their own bytes, which are among those lent
+  pub fits : n ≡ 0 → (edges : ℕ) → edges ≡ length fs / 2 - 1 → Admitted fs w (edges * 40) × (edges * 40 ≤ bytes)
+  fits z edges e =
       let (t, f, r) = admitted _ _ _ (sym d ∙ z) in
       let (p, q) = and-parts _ _ t in
       let even : length fs % 2 ≡ 0 = eqb-true _ _ p in
       let few : length fs / 2 ≤ 4096 = leb-true _ _ q in
       let room : length fs / 2 - 1 ≤ bytes / 40 = leb-true _ _ r in
-      record { even = even; few = omega arith; fine = f; room = omega (arith, length-trace true w fs, length-records (traceCuts true w fs)) }
+      (record { even = even; few = omega arith; fine = f; room = omega (arith, length-trace true w fs, length-records (traceCuts true w fs)) }, omega arith)
+
+-- bytes stored over a part in front, and then those after it
+in-front : (xs bs : List ℕ) (m : ℕ) → length bs ≡ m → m ≤ length xs → stored (take m xs) 0 bs ++ drop m xs ≡ followedBy bs xs
+in-front xs bs m e h =
+    let l = length-take-le m xs h in
+    let f = stored-front (take m xs) bs (omega arith) in
+    let short : length (take m xs) ≤ length bs = omega arith in
+    let g : drop (length bs) (take m xs) ≡ [] = drop-of-length-le (take m xs) short in
+    let a : stored (take m xs) 0 bs ≡ bs = f ∙ ap (bs ++_) g ∙ append-nil bs in
+    ap (_++ drop m xs) a ∙ ap (λ (k : ℕ). bs ++ drop k xs) (sym e)
 
 module _ (fs : List Float) (w : Rect) (xs ys : List ℕ) (n : ℕ) (d : n ≡ inOrder (traceFine (length fs)) (windowFine w) (roomFor (length fs / 2 - 1) (length xs))) where
   abbrev Left : TraceAnswer → Type 0
@@ -54,9 +65,11 @@ module _ (fs : List Float) (w : Rect) (xs ys : List ℕ) (n : ℕ) (d : n ≡ in
       let o : (v : ℕ) → _≡_ {A = ℕ} 0 (beside (traceNumber fs w (length xs)) v 0) = λ v. ask-other n (traceNumber fs w (length xs)) 0 v 0 e z refl in
       (cc (e, o (howMany isKept cs), o (howMany isMissed cs), o (howMany isRefused cs), o (length cs)), ask-other n _ ys _ xs e z u)
 
-  pub cut : n ≡ 0 → (r : TraceAnswer) → r ≡ traceAnswer 0 (traceCuts true w fs) → ys ≡ stored xs 0 (recordsOf (traceCuts true w fs)) → Left r
+  pub cut : n ≡ 0 → (edges : ℕ) → edges ≡ length fs / 2 - 1 → (r : TraceAnswer) → r ≡ traceAnswer 0 (traceCuts true w fs)
+      → (zs : List ℕ) → zs ≡ stored (take (edges * 40) xs) 0 (recordsOf (traceCuts true w fs)) → ys ≡ zs ++ drop (edges * 40) xs → Left r
   unfolding bufferAfter
-  cut z r a u =
+  cut z edges g r a zs u v =
       let e = number-is fs w n (length xs) d in
-      let f = fits fs w n (length xs) d z in
-      (a ∙ ap (λ (m : ℕ). traceAnswer m (traceCuts true w fs)) (sym z ∙ e), ask-done n _ ys _ xs e z (u ∙ stored-front xs _ (f .room)))
+      let (f, h) = fits fs w n (length xs) d z edges g in
+      let b = v ∙ ap (_++ drop (edges * 40) xs) u ∙ in-front xs (recordsOf (traceCuts true w fs)) (edges * 40) (f .room) h in
+      (a ∙ ap (λ (m : ℕ). traceAnswer m (traceCuts true w fs)) (sym z ∙ e), ask-done n _ ys _ xs e z b)

@@ -1,23 +1,21 @@
--- One edge in a window that is not refused: the early answer where both ends lie in it, its refusal, and else its cut.
+-- One edge in a window that is not refused: its refusal, and else its cut.
 use Prim.Native.Nat.{ℕ, _+_, _*_, _<_}
 use mathlib.Core.Path.{_≡_, refl, sym, ap, subst, _∙_}
-use mathlib.Core.Bool.{Bool, true, false, not, _&&_}
+use mathlib.Core.Bool.{Bool, true, false, not}
 use mathlib.Core.List.{List}
 use native.Mathlib.Omega.{arith}
 use lib.Dec.{T}
-use lib.Ieee.{Float, le, isNan, ofBits, toBits}
+use lib.Ieee.{Float, lt, le, unlike, isNan, ofBits, toBits}
 use Rattle.float.specs.Choice.{when_then_else_, _and_}
-use Rattle.float.proofs.Choice.{then-is, else-is, and-parts, and-both}
-use Rattle.float.proofs.Order.{le-num, between}
+use Rattle.float.proofs.Choice.{then-is, else-is}
+use Rattle.float.proofs.Order.{le-num}
 use Rattle.answer.proofs.Beside.{beside-done, beside-other}
-use Rattle.plane.specs.Interval.{holds}
-use Rattle.plane.specs.Rect.{boxOf, containsPoint}
+use Rattle.plane.specs.Rect.{boxOf}
 use Rattle.plane.specs.declared.point.Point.{Point}
-use Rattle.plane.specs.declared.interval.Interval.{Interval}
 use Rattle.plane.specs.declared.rect.Rect.{Rect}
-use Rattle.clip.specs.Cut.{boxCut}
-use Rattle.clip.specs.Refuse.{coordinate, side, sidesFine, windowFine, pointFine, planeRefusal, edgeRefusal}
-use Rattle.clip.specs.Early.{bothIn, insideWindow, whole}
+use Rattle.clip.specs.Cut.{negativeSlope, boxCut}
+use Rattle.clip.specs.Turns.{axisX, axisY, sidesCut}
+use Rattle.clip.specs.Refuse.{windowFine, pointFine, planeRefusal, edgeRefusal}
 use Rattle.clip.specs.Answers.{edgeAnswer, clipped, numberOf, pointsOf}
 use Rattle.clip.specs.Promises.{Fine}
 use Rattle.clip.specs.declared.compute.BoxCut.{BoxCut}
@@ -25,15 +23,17 @@ use Rattle.clip.specs.declared.compute.BoxCut.the-variants.{Inside, Outside}
 use Rattle.clip.specs.declared.Segment.{Segment}
 use Rattle.clip.specs.declared.Clipped.{Clipped}
 use Rattle.clip.specs.declared.Clipped.the-variants.{Kept, Missed, Refused}
-use Rattle.clip.proofs.Early.{and-true, inside-early}
+use Rattle.clip.proofs.Turns.{four-sides}
 use Rattle.clip.proofs.Promises.{promises}
 use Rattle.buffer.specs.Bytes.{bytesOf, placed}
 use Rattle.record.specs.Record.{headBytes, fiveWords, recordBytes}
 use Rattle.record.proofs.Words.{head-is, record-words}
 use Rattle.record.specs.declared.Ends.{Ends}
-use Rattle.trace.specs.Known.{Seen, Held, Numbers}
-use Rattle.trace.specs.Records.{noEnds, endsOf, cutBytes}
+use Rattle.trace.specs.Known.{sampleOf, Seen, counted, Numbers}
+use Rattle.trace.specs.Records.{noEnds, endsOf, cutBytes, isKept, isRefused}
 use Rattle.trace.specs.declared.edge.Sample.{Sample}
+use Rattle.trace.specs.declared.edge.Counts.{Counts}
+use Rattle.trace.proofs.Live.{marks}
 
 -- ---- what is refused
 pub fine-edge : (a b : Point) (w : Rect) → windowFine w ≡ true → (pointFine a and pointFine b) ≡ true → Fine a b w
@@ -56,7 +56,7 @@ pub fine-cut : (a b : Point) (w : Rect) → Fine a b w → edgeAnswer a b (boxCu
 unfolding clipped
 fine-cut a b w f = beside-done _ _ _ f
 
--- ---- the answer by its cases: where no sample is dead, and where the window is not refused
+-- ---- the answer by its cases, where no sample is dead
 module _ (P : Clipped → Type 0) (a b : Point) (w : Rect) where
   cut-cases : windowFine w ≡ true → (pointFine a and pointFine b) ≡ true → ((s : Segment) → P (Kept s)) → P Missed → P (clipped a b w)
   cut-cases f p k m = subst P (fine-cut a b w (fine-edge a b w f p)) (go (boxCut a b w (boxOf a b)))
@@ -72,75 +72,31 @@ module _ (P : Clipped → Type 0) (a b : Point) (w : Rect) where
       go true f = cut-cases f p k m
       go false f = subst P (window-refused a b w f p) r
 
-  pub kinds : windowFine w ≡ true → ((s : Segment) → P (Kept s)) → P Missed → P (Refused 2) → P (clipped a b w)
-  kinds f k m r = go (pointFine a and pointFine b) refl
-    where
-      go : (t : Bool) → (pointFine a and pointFine b) ≡ t → P (clipped a b w)
-      go true p = cut-cases f p k m
-      go false p = subst P (dead-refused a b w p) r
-
--- ---- inside
-held-finite : (i : Interval) (x : Float) → sidesFine i ≡ true → holds i x ≡ true → coordinate x ≡ true
-unfolding sidesFine side coordinate holds
-held-finite i x f h =
-    let (l, u) = and-parts _ _ (and-parts _ _ f .0) in
-    let (p, q) = and-parts _ _ h in
-    between _ _ _ l u p q
-
-point-finite : (w : Rect) (p : Point) → windowFine w ≡ true → containsPoint w p ≡ true → pointFine p ≡ true
-unfolding windowFine containsPoint
-point-finite w p f h =
-    let (fx, fy) = and-parts _ _ f in
-    let (hx, hy) = and-parts _ _ h in
-    and-both _ _ (held-finite _ _ fx hx) (held-finite _ _ fy hy)
-
-both-held : (i : Interval) (a b : Float) → holds i a ≡ true → holds i b ≡ true → bothIn i a b ≡ true
-unfolding holds
-both-held i a b h k =
-    let (p, q) = and-parts _ _ h in
-    let (r, s) = and-parts _ _ k in
-    rw (p, q, r, s)
-
-both-inside : (w : Rect) (a b : Point) → containsPoint w a ≡ true → containsPoint w b ≡ true → insideWindow a b w ≡ true
-unfolding containsPoint
-both-inside w a b h k =
-    let (hx, hy) = and-parts _ _ h in
-    let (kx, ky) = and-parts _ _ k in
-    rw (both-held _ _ _ hx kx, both-held _ _ _ hy ky)
-
-inside-kept : (a b : Point) (w : Rect) → windowFine w ≡ true → containsPoint w a ≡ true → containsPoint w b ≡ true
-    → Kept (whole a b) ≡ clipped a b w
-inside-kept a b w f h k =
-    inside-early a b w (fine-edge a b w f (and-both _ _ (point-finite w a f h) (point-finite w b f k))) (both-inside w a b h k)
-
-pub inside-live : (inside : Bool) (p : Point) (w : Rect) → Held inside p w → inside ≡ true → true ≡ pointFine p
-inside-live inside p w h e = sym (point-finite w p (h .fine) (sym (h .so) ∙ e))
-
 -- ---- by what is known of its two samples
-and-is : (p q : Bool) → (p && q) ≡ (p and q)
-unfolding when_then_else_
-and-is true q = refl
-and-is false q = refl
-
 module _ (a b : Sample) (w : Rect) (s : Seen a b w) where
-  pub seen-inside : (a .inside && b .inside) ≡ true → Kept (whole (a .place) (b .place)) ≡ clipped (a .place) (b .place) w
-  seen-inside e =
-      let (p, q) = and-true _ _ e in
-      let f : a .inside ≡ containsPoint w (a .place) = ap (λ (t : Sample). t .inside) (s .a-so) in
-      let g : b .inside ≡ containsPoint w (b .place) = ap (λ (t : Sample). t .inside) (s .b-so) in
-      inside-kept _ _ w (s .fine) (sym f ∙ p) (sym g ∙ q)
-
-  live-is : (pointFine (a .place) and pointFine (b .place)) ≡ (a .live && b .live)
+  live-is : le (a .mark) (b .mark) ≡ (pointFine (a .place) and pointFine (b .place))
   live-is =
-      let f : a .live ≡ pointFine (a .place) = ap (λ (t : Sample). t .live) (s .a-so) in
-      let g : b .live ≡ pointFine (b .place) = ap (λ (t : Sample). t .live) (s .b-so) in
-      rw (f, g) (sym (and-is (pointFine (a .place)) (pointFine (b .place))))
+      let f : a .mark ≡ sampleOf (a .place) .mark = ap (λ (t : Sample). t .mark) (s .a-so) in
+      let g : b .mark ≡ sampleOf (b .place) .mark = ap (λ (t : Sample). t .mark) (s .b-so) in
+      rw (f, g) (marks (a .place) (b .place))
 
-  pub seen-dead : (a .live && b .live) ≡ false → Refused 2 ≡ clipped (a .place) (b .place) w
-  seen-dead e = dead-refused _ _ w (live-is ∙ e)
+  pub seen-dead : le (a .mark) (b .mark) ≡ false → Refused 2 ≡ clipped (a .place) (b .place) w
+  seen-dead e = dead-refused _ _ w (sym live-is ∙ e)
 
-  pub seen-fine : (a .live && b .live) ≡ true → Fine (a .place) (b .place) w
-  seen-fine e = fine-edge _ _ w (s .fine) (live-is ∙ e)
+  pub seen-fine : le (a .mark) (b .mark) ≡ true → Fine (a .place) (b .place) w
+  seen-fine e = fine-edge _ _ w (s .fine) (sym live-is ∙ e)
+
+-- ---- by the way it runs: to the left, and down
+pub runs : (a b : Point) (w : Rect) → Fine a b w → (left down n : Bool) → n ≡ unlike left down → lt (b .x) (a .x) ≡ left → lt (b .y) (a .y) ≡ down
+    → (first : Rect) → first ≡ boxOf a b → (m : BoxCut) → m ≡ sidesCut 4 false (axisX a b w first) (axisY a b w first) n
+    → (r : Clipped) → r ≡ edgeAnswer a b m → r ≡ clipped a b w
+runs a b w f left down n en l d first e m em r er =
+    let k : n ≡ negativeSlope a b = en ∙ slope in
+    let c : m ≡ sidesCut 4 false (axisX a b w (boxOf a b)) (axisY a b w (boxOf a b)) (negativeSlope a b) = rw (k, e) at em in
+    er ∙ ap (edgeAnswer a b) (c ∙ four-sides a b w (boxOf a b)) ∙ fine-cut a b w f
+  where
+    slope : unlike left down ≡ negativeSlope a b
+    slope = unfold negativeSlope in rw (l, d)
 
 -- ---- what an answer writes
 number : (x y : Float) → le x y ≡ true → T (not (isNan y))
@@ -165,9 +121,9 @@ kept-numbers a b w s e =
     }
 
 module _ (c : Clipped) where
-  pub wrote : (n r to : ℕ) (e : Ends) (xs ys : List ℕ) → n ≡ numberOf c → e ≡ endsOf (pointsOf c)
-      → r ≡ n → ys ≡ placed xs to (recordBytes n 0 e) → (r ≡ numberOf c) × (ys ≡ placed xs to (cutBytes c))
-  wrote n r to e xs ys en ee er ey = (er ∙ en, cc)
+  pub wrote : (n to : ℕ) (e : Ends) (xs ys : List ℕ) → n ≡ numberOf c → e ≡ endsOf (pointsOf c)
+      → ys ≡ placed xs to (recordBytes n 0 e) → ys ≡ placed xs to (cutBytes c)
+  wrote n to e xs ys en ee ey = cc
 
   pub number-kept : (s : Segment) → c ≡ Kept s → 0 ≡ numberOf c
   unfolding numberOf
@@ -192,3 +148,27 @@ module _ (c : Clipped) where
   pub ends-refused : (n : ℕ) → c ≡ Refused n → noEnds ≡ endsOf (pointsOf c)
   unfolding pointsOf
   ends-refused n e = rw e
+
+  -- ---- and how it counts
+  count : (m : Counts) (k r : ℕ) → k ≡ (when isKept c then 1 else 0) → r ≡ (when isRefused c then 1 else 0)
+      → record { kept = m .kept + k; refused = m .refused + r } ≡ counted m c
+  count m k r ek er = rw (ek, er)
+
+  pub count-kept : (m : Counts) (s : Segment) → c ≡ Kept s → record { kept = m .kept + 1; refused = m .refused } ≡ counted m c
+  unfolding isKept isRefused when_then_else_
+  count-kept m s e =
+      let z : m .refused ≡ m .refused + 0 = omega arith in
+      ap (λ (r : ℕ). record { kept = m .kept + 1; refused = r }) z ∙ count m 1 0 (rw e) (rw e)
+
+  pub count-missed : (m : Counts) → c ≡ Missed → m ≡ counted m c
+  unfolding isKept isRefused when_then_else_
+  count-missed m e =
+      let y : m .kept ≡ m .kept + 0 = omega arith in
+      let z : m .refused ≡ m .refused + 0 = omega arith in
+      ap (λ (k : ℕ). record { kept = k; refused = m .refused }) y ∙ ap (λ (r : ℕ). record { kept = m .kept + 0; refused = r }) z ∙ count m 0 0 (rw e) (rw e)
+
+  pub count-refused : (m : Counts) (n : ℕ) → c ≡ Refused n → record { kept = m .kept; refused = m .refused + 1 } ≡ counted m c
+  unfolding isKept isRefused when_then_else_
+  count-refused m n e =
+      let y : m .kept ≡ m .kept + 0 = omega arith in
+      ap (λ (k : ℕ). record { kept = k; refused = m .refused + 1 }) y ∙ count m 0 1 (rw e) (rw e)

@@ -25,7 +25,7 @@ same-length : tie.Need-same-length
 same-length c = search needs
 
 returns : tie.Need-returns
-returns c = (refl, record-words _ _ _ 0 0 _ _ _ _ _ _ (c .before .before .put-words .ensures) (head-is 0 0 (omega arith)) refl refl refl refl)
+returns c = record-words _ _ _ 0 0 _ _ _ _ _ _ (c .before .before .put-words .ensures) (head-is 0 0 (omega arith)) refl refl refl refl
 
 pub put-kept-spec : {M : Type 1} → statement M
 put-kept-spec =

@@ -1,5 +1,4 @@
 -- `put_zeros` is the record of zeros beside a number.
-use mathlib.Core.Path.{refl}
 use Rattle.trace.proofs.OneEdge.{no-words}
 use borrow.Author.Needs.{needs}
 use Rattle.trace.proofs.edge.put_zeros.Statement.{statement}
@@ -12,7 +11,7 @@ same-length : tie.Need-same-length
 same-length c = search needs
 
 returns : tie.Need-returns
-returns c = (refl, no-words _ _ _ _ (search needs) (c .before .before .put-words .ensures))
+returns c = no-words _ _ _ _ (search needs) (c .before .before .put-words .ensures)
 
 pub put-zeros-spec : {M : Type 1} → statement M
 put-zeros-spec = tie.close (tie.spec put-words-requires same-length returns)
