@@ -5,7 +5,7 @@ use mathlib.Core.List.{List, [], _∷_}
 use lib.ListN.{getD}
 use lib.Ieee.{Float, binary64, toBits, nan}
 use Rattle.float.specs.Choice.{when_then_else_}
-use Rattle.answer.specs.Answer.{beside, missed, done}
+use Rattle.answer.specs.Answer.{beside}
 use Rattle.answer.specs.declared.Real.{Real}
 use Rattle.answer.specs.declared.YesNo.{YesNo}
 use Rattle.plane.specs.Point.{at}
@@ -15,7 +15,7 @@ use Rattle.plane.specs.declared.interval.IntervalAnswer.{IntervalAnswer}
 use Rattle.plane.specs.declared.rect.RectAnswer.{RectAnswer}
 use Rattle.plane.specs.declared.rect.Corners.{Corners}
 use Rattle.clip.specs.declared.Clipped.{Clipped}
-use Rattle.clip.specs.declared.Clipped.the-variants.{Kept, Missed, Refused}
+use Rattle.clip.specs.Answers.{numberOf, pointsOf}
 use Rattle.clip.specs.declared.AxesAnswer.{AxesAnswer}
 use Rattle.cube.specs.declared.FaceAnswer.{FaceAnswer}
 use Rattle.cube.specs.declared.FaceUv.{FaceUv}
@@ -53,9 +53,7 @@ unfoldable pub pointsReply : ℕ → Point → Point → Reply
 pointsReply n p q = reply n 4 (bits (p .x) ∷ bits (p .y) ∷ bits (q .x) ∷ bits (q .y) ∷ 0 ∷ 0 ∷ 0 ∷ 0 ∷ [])
 
 unfoldable pub clippedReply : Clipped → Reply
-clippedReply (Kept s) = pointsReply done (at (s .ax) (s .ay)) (at (s .bx) (s .by))
-clippedReply Missed = onlyReply missed
-clippedReply (Refused n) = onlyReply n
+clippedReply c = let s = pointsOf c in pointsReply (numberOf c) (at (s .ax) (s .ay)) (at (s .bx) (s .by))
 
 -- the corner i of the four
 abbrev pub corner : Corners → ℕ → Point

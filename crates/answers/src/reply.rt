@@ -93,8 +93,8 @@ pub fn of_clipped(c: Clipped) -> Reply
 {
     match c {
         Clipped::Kept(s) => of_points(DONE, Point { x: s.ax, y: s.ay }, Point { x: s.bx, y: s.by }),
-        Clipped::Missed => only(MISSED),
-        Clipped::Refused(n) => only(n),
+        Clipped::Missed => of_points(MISSED, Point { x: 0.0, y: 0.0 }, Point { x: 0.0, y: 0.0 }),
+        Clipped::Refused(n) => of_points(n, Point { x: 0.0, y: 0.0 }, Point { x: 0.0, y: 0.0 }),
     }
 }
 

@@ -1,21 +1,20 @@
 -- Why the early answers are right: by the promises on a first box inside the window, and on one that shares no point with it.
-use mathlib.Core.Path.{_≡_, refl, sym, ap, subst, _∙_}
+use mathlib.Core.Path.{_≡_, refl, sym, subst, _∙_}
 use mathlib.Core.Bool.{Bool, true, false, _&&_, _||_, true≢false, false≢true}
 use lib.Ieee.{Float, lt}
-use Rattle.float.proofs.Order.{finite-num, le-lt-trans, lt-le-trans, lt-not-le}
+use Rattle.float.proofs.Order.{le-lt-trans, lt-le-trans, lt-not-le}
 use Rattle.plane.specs.Interval.{between}
 use Rattle.plane.specs.Rect.{boxOf}
 use Rattle.plane.specs.Within.{In, Part, Share, PartRect, ShareRect}
 use Rattle.plane.specs.declared.point.Point.{Point}
 use Rattle.plane.specs.declared.interval.Interval.{Interval}
 use Rattle.plane.specs.declared.rect.Rect.{Rect}
-use Rattle.plane.proofs.Between.{between-least, a-end, second-end}
-use Rattle.clip.specs.declared.Segment.{Segment}
+use Rattle.plane.proofs.Between.{between-least}
 use Rattle.clip.specs.declared.Clipped.the-variants.{Kept, Missed}
-use Rattle.clip.specs.Early.{bothIn, insideWindow, past, apart, second, whole}
-use Rattle.clip.specs.Answers.{ends, clipped}
+use Rattle.clip.specs.Inner.{bothIn, insideWindow, past, apart}
+use Rattle.clip.specs.Answers.{whole, clipped}
 use Rattle.clip.specs.Promises.{Fine}
-use Rattle.clip.proofs.Promises.{Good, good, promises}
+use Rattle.clip.proofs.Promises.{inside-clipped, apart-clipped}
 
 -- ---- tests joined
 pub and-true : (p q : Bool) → (p && q) ≡ true → (p ≡ true) × (q ≡ true)
@@ -34,16 +33,11 @@ both-part i a b e =
     let (l, h) = and-true _ _ ab in
     between-least a b i (record { low = l; high = h }) (record { low = c; high = d })
 
--- the ends of the first box, which are the edge's own
-whole-is : (a b : Point) (w : Rect) → Good a b w → whole a b ≡ ends a b (boxOf a b)
-unfolding ends second
-whole-is a b w g = rw (a-end (a .x) (b .x), a-end (a .y) (b .y), second-end (a .x) (b .x) (finite-num _ (g .ax)) (finite-num _ (g .bx)), second-end (a .y) (b .y) (finite-num _ (g .ay)) (finite-num _ (g .by)))
-
 pub inside-early : (a b : Point) (w : Rect) → Fine a b w → insideWindow a b w ≡ true → Kept (whole a b) ≡ clipped a b w
 inside-early a b w f e =
     let (x, y) = and-true _ _ e in
     let p : PartRect (boxOf a b) w = record { x = both-part _ _ _ x; y = both-part _ _ _ y } in
-    ap Kept (whole-is a b w (good a b w f)) ∙ sym (promises .inside-kept a b w f p .0)
+    sym (inside-clipped a b w f p)
 
 -- ---- apart
 past-apart : (i j : Interval) → past i j ≡ true → Share i j → ⊥
@@ -54,7 +48,7 @@ past-apart i j e (x, p, q) =
 
 apart-box : (a b : Point) (w : Rect) → Fine a b w → apart (boxOf a b) w ≡ true → Missed ≡ clipped a b w
 apart-box a b w f e =
-    sym (promises .apart-missed a b w f (λ (p, q, r).
+    sym (apart-clipped a b w f (λ (p, q, r).
     or-true _ _ e (λ h. past-apart _ _ h (p .x, q .x, r .x)) (λ h. past-apart _ _ h (p .y, q .y, r .y))))
 
 -- where the box and the test are what calls gave

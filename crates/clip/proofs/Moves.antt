@@ -1,13 +1,14 @@
 -- What a cut leaves is a part of what was there and reaches no farther than the window; where nothing reaches past the window it leaves all.
 -- Nothing here depends on the cut values: an end may be moved to any value.
 use mathlib.Core.Path.{_≡_, refl, sym, ap, _∙_, subst}
-use mathlib.Core.Bool.{Bool, true, false, not}
+use mathlib.Core.Bool.{Bool, true, false, not, true≢false}
 use Prim.Native.Nat.{ℕ}
 use native.Mathlib.Omega.{arith}
 use lib.Ieee.{Float}
+use Rattle.float.specs.Choice.{when_then_else_}
 use Rattle.float.proofs.Choice.{else-is, split}
-use Rattle.float.proofs.Order.{Num}
-use Rattle.plane.specs.Interval.{endOf}
+use Rattle.float.proofs.Order.{Num, le-refl, le-trans, le-not-lt}
+use Rattle.plane.specs.Interval.{isEmpty, endOf}
 use Rattle.plane.specs.Within.{Some, Part, SomeRect, PartRect}
 use Rattle.plane.specs.declared.point.Point.{Point}
 use Rattle.plane.specs.declared.interval.Interval.{Interval}
@@ -20,6 +21,7 @@ use Rattle.clip.specs.declared.compute.AxisCut.{AxisCut}
 use Rattle.clip.specs.declared.compute.AxisCut.the-variants.{Left, Gone}
 use Rattle.clip.specs.declared.compute.BoxCut.the-variants.{Inside, Outside}
 use Rattle.clip.specs.Cut.{inward, withEnd, movedEnd, otherMoved, sideCut, thenHigh, axisCut, negativeSlope, afterY, afterX, thenY, boxCut}
+use Rattle.clip.specs.Promises.{NoWider}
 use Rattle.clip.proofs.Sides.{upTo, inward-up, not-inward, up-not, up-refl, up-num, end-num, end-with, with-part, Reach, part-reach, reaches, reach-part}
 
 -- ---- constructors
@@ -42,17 +44,35 @@ inside-out : {A : Type 0} (k : Rect) → Outside ≡ Inside k → A
 inside-out k e = let z : _≡_ {A = ℕ} 0 1 = cc in absurd (omega arith)
 
 -- ---- one end
+-- neither end is a NaN
+abbrev pub Ended : Interval → Type 0
+Ended i = (d : Bool) → Num (endOf i d)
+
 -- an end moved to a value inward of it, and not inward of the other end
-inner : (i : Interval) (d : Bool) (v : Float) → Some i → inward d v (endOf i (not d)) ≡ false → inward d v (endOf i d) ≡ true → Part (withEnd i d v) i
-inner i d v some p q =
+inner : (i : Interval) (d : Bool) (v : Float) → Ended i → inward d v (endOf i (not d)) ≡ false → inward d v (endOf i d) ≡ true → Part (withEnd i d v) i
+inner i d v n p q =
     let u = inward-up d v (endOf i d) q in
-    with-part i d v (not-inward d v _ (up-num d _ _ u .0) (end-num i (not d) some) p) u
+    with-part i d v (not-inward d v _ (up-num d _ _ u .0) (n (not d)) p) u
+
+-- what holds of each interval that a moved end can leave holds of the one left
+moved-cases : (P : Interval → Type 0) (i j : Interval) (d : Bool) (v : Float) → Ended i → movedEnd i d v ≡ To j → (Part (withEnd i d v) i → P (withEnd i d v)) → P i → P j
+unfolding movedEnd
+moved-cases P i j d v n e f g =
+    split _ _ _ _ e (λ p q. to-lost j q)
+    (λ p q. split _ _ _ _ q (λ h k. subst P (to-same _ j k) (f (inner i d v n p h))) (λ h k. subst P (to-same i j k) g))
 
 pub moved-part : (i j : Interval) (d : Bool) (v : Float) → Some i → movedEnd i d v ≡ To j → Part j i
-unfolding movedEnd
-moved-part i j d v some e =
-    split _ _ _ _ e (λ p q. to-lost j q)
-    (λ p q. split _ _ _ _ q (λ h k. subst (λ (x : Interval). Part x i) (to-same _ j k) (inner i d v some p h)) (λ h k. subst (λ (x : Interval). Part x i) (to-same i j k) (part-refl i some)))
+moved-part i j d v some e = moved-cases (λ k. Part k i) i j d v (λ c. end-num i c some) e (λ p. p) (part-refl i some)
+
+-- an interval with a part is not empty, so an empty one is left as it is
+pub moved-wider : (i j : Interval) (d : Bool) (v : Float) → Ended i → movedEnd i d v ≡ To j → NoWider j i
+moved-wider i j d v n e =
+    moved-cases (λ k. NoWider k i) i j d v n e
+    (λ p. record { low = p .low; high = p .high; some = λ s. p .some; empty = λ h. absurd (true≢false (sym h ∙ unfold isEmpty in le-not-lt _ _ (whole p))) })
+    (record { low = unfold endOf when_then_else_ in le-refl _ (n false); high = unfold endOf when_then_else_ in le-refl _ (n true); some = λ s. s; empty = λ h. refl })
+  where
+    whole : {k : Interval} → Part k i → Some i
+    whole p = le-trans _ _ _ (p .low) (le-trans _ _ _ (p .some) (p .high))
 
 -- ---- one side of the window
 -- t is what a cut left of two axes
@@ -71,7 +91,7 @@ unfolding sideCut
 side-left d a0 b0 this a1 b1 other neg w t p q n e =
     split _ _ _ _ e
     (λ h g. split _ _ _ _ g (λ k c. left-gone t c) (λ k c. other-left _ _ t c (λ j m r. subst Result r (
-      record { on-this = inner this d (endOf w d) p k h; on-other = moved-part other j _ _ q m },
+      record { on-this = inner this d (endOf w d) (λ c. end-num this c p) k h; on-other = moved-part other j _ _ q m },
       subst (λ (x : Float). upTo d x (endOf w d) ≡ true) (sym (end-with this d (endOf w d))) (up-refl d (endOf w d) n),
     ))))
     (λ h c. subst Result (left-same _ t c) (record { on-this = part-refl _ p; on-other = part-refl _ q }, not-inward d _ _ n (end-num this d p) h))

@@ -1,7 +1,8 @@
 -- The answers of module 4: what was cut beside 0, a miss as 1, a refusal as its number.
 use Prim.Native.Nat.{ℕ}
 use mathlib.Core.Bool.{Bool, not}
-use lib.Ieee.{Float, lt}
+use lib.Ieee.{Float, lt, eq}
+use Rattle.float.specs.Choice.{when_then_else_}
 use Rattle.float.specs.Float.{zeroF}
 use Rattle.answer.specs.Answer.{done, missed, beside, realAnswer, yesNoAnswer}
 use Rattle.answer.specs.declared.Real.{Real}
@@ -38,6 +39,13 @@ ends a b r =
       bx = endOf (r .x) (not (lt (b .x) (a .x)));
       by = endOf (r .y) (not (lt (b .y) (a .y)));
     }
+
+-- the edge as it is: b's coordinate, or a's where the two compare equal, since the box keeps the first
+unfoldable pub second : Float → Float → Float
+second a b = when eq a b then a else b
+
+abbrev pub whole : Point → Point → Segment
+whole a b = record { ax = a .x; ay = a .y; bx = second (a .x) (b .x); by = second (a .y) (b .y) }
 
 unfoldable pub edgeAnswer : Point → Point → BoxCut → Clipped
 edgeAnswer a b (Inside r) = Kept (ends a b r)

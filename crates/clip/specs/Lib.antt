@@ -2,6 +2,6 @@
 pub mod Cut
 pub mod Turns
 pub mod Refuse
-pub mod Early
 pub mod Answers
 pub mod Promises
+pub mod Inner

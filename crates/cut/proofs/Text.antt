@@ -2,26 +2,23 @@
 use Prim.Native.Nat.{ℕ, _+_, _≤_, _<_}
 use native.Mathlib.Omega.{arith}
 use mathlib.Core.Path.{_≡_, refl, _∙_}
-use mathlib.Core.Bool.{Bool}
 use mathlib.Core.List.{List, [], _∷_, _++_}
 use lib.ListN.{length, set, length-set, length-append}
 use lib.Ieee.{binary64, toBits}
+use Rattle.float.specs.Choice.{when_then_else_}
 use Rattle.float.proofs.Choice.{cases}
 use Rattle.answer.specs.Answer.{beside}
+use Rattle.answer.proofs.Beside.{beside-other}
 use Rattle.buffer.specs.Bytes.{stored, placed}
 use Rattle.buffer.specs.Digits.{group}
 use Rattle.buffer.proofs.Stored.{placed-length, placed-then, length-group}
-use Rattle.plane.specs.declared.point.Point.{Point}
-use Rattle.plane.specs.declared.rect.Rect.{Rect}
-use Rattle.clip.specs.declared.compute.BoxCut.{BoxCut}
-use Rattle.clip.specs.declared.compute.BoxCut.the-variants.{Inside, Outside}
 use Rattle.clip.specs.declared.Segment.{Segment}
 use Rattle.clip.specs.declared.Clipped.{Clipped}
 use Rattle.clip.specs.declared.Clipped.the-variants.{Kept, Missed, Refused}
-use Rattle.clip.specs.Refuse.{planeRefusal}
-use Rattle.clip.specs.Answers.{edgeAnswer, clipped, numberOf}
-use Rattle.cut.specs.Record.{answerOf}
-use Rattle.cut.specs.Line.{numberLine, keptLine, lineOf}
+use Rattle.clip.specs.Answers.{numberOf, pointsOf}
+use Rattle.clip.proofs.Promises.{promises}
+use Rattle.cut.specs.Record.{pointAt, windowAt, answerOf}
+use Rattle.cut.specs.Line.{numberLine, keptLine, lineOf, Told}
 
 -- ---- a kept line: a byte, four groups and a byte, stored one after the other
 -- a group that fits, then the rest
@@ -56,28 +53,27 @@ unfolding numberLine
 length-number n = refl
 
 length-line : (c : Clipped) → length (lineOf c) ≤ 70
-unfolding lineOf
-length-line (Kept s) = omega (arith, length-kept s)
-length-line Missed = omega (arith, length-number 1)
-length-line (Refused n) = omega (arith, length-number n)
+unfolding lineOf beside
+length-line c = cases (λ (l : List ℕ). length l ≤ 70) _ _ _ (λ h. omega (arith, length-kept (pointsOf c))) (λ h. omega (arith, length-number (numberOf c)))
 
 -- ---- the line of each case
 module _ (c : Clipped) where
   pub line-kept : (s : Segment) → c ≡ Kept s → keptLine s ≡ lineOf c
-  unfolding lineOf
+  unfolding lineOf numberOf pointsOf beside when_then_else_
   line-kept s e = rw e
 
   pub line-missed : c ≡ Missed → numberLine 1 ≡ lineOf c
-  unfolding lineOf
+  unfolding lineOf numberOf pointsOf beside when_then_else_
   line-missed e = rw e
 
-  pub line-refused : (n : ℕ) → c ≡ Refused n → numberLine n ≡ lineOf c
-  unfolding lineOf
-  line-refused n e = rw e
+  -- 0 is no refusal's number
+  pub line-refused : (n : ℕ) → c ≡ Refused n → Told c → numberLine n ≡ lineOf c
+  unfolding lineOf numberOf
+  line-refused n e (d, k) = rw e (beside-other n _ _ (λ z. let y : _≡_ {A = ℕ} 0 1 = cc (k (rw e z)) in omega arith))
 
-  pub refused-digit : (n : ℕ) → c ≡ Refused n → numberOf c < 10 → n < 10
+  pub refused-digit : (n : ℕ) → c ≡ Refused n → Told c → n < 10
   unfolding numberOf
-  refused-digit n e h = rw e at h
+  refused-digit n e (d, k) = rw e at d
 
 -- a line that was stored, and the place after it
 pub line-end : (xs ys : List ℕ) (to n : ℕ) (c : Clipped) (line : List ℕ) → ys ≡ stored xs to line → line ≡ lineOf c → length line ≡ n → (to + n ≡ to + length (lineOf c)) × (ys ≡ stored xs to (lineOf c))
@@ -86,20 +82,7 @@ line-end xs ys to n c line e f l = (rw (← f, l), rw (← f) e)
 pub line-room : (to next : ℕ) (c : Clipped) → next ≡ to + length (lineOf c) → next ≤ to + 70
 line-room to next c e = omega (arith, length-line c)
 
--- ---- the numbers that an edge can get have one digit
-refusal-digit : (p w : Bool) → planeRefusal p w < 10
-unfolding planeRefusal
-refusal-digit p w = cases (λ (n : ℕ). n < 10) p _ 2 (λ h. cases (λ (n : ℕ). n < 10) w 0 3 (λ k. omega arith) (λ k. omega arith)) (λ h. omega arith)
-
-edge-digit : (a b : Point) (m : BoxCut) → numberOf (edgeAnswer a b m) < 10
-unfolding edgeAnswer numberOf
-edge-digit a b (Inside r) = omega arith
-edge-digit a b Outside = omega arith
-
-clipped-digit : (a b : Point) (w : Rect) → numberOf (clipped a b w) < 10
-unfolding clipped beside
-clipped-digit a b w = cases (λ (c : Clipped). numberOf c < 10) _ _ _ (λ h. edge-digit a b _) (λ h. unfold numberOf in refusal-digit _ _)
-
-pub record-digit : (s : List ℕ) → numberOf (answerOf s) < 10
+-- ---- what an edge can get
+pub record-told : (s : List ℕ) → Told (answerOf s)
 unfolding answerOf
-record-digit s = clipped-digit _ _ _
+record-told s = (omega (arith, promises .numbers .clip-edge (pointAt s 0) (pointAt s 16) (windowAt s 32) .no-other), promises .zero-kept _ _ _)

@@ -4,9 +4,8 @@ ghost use Prim.Native.Nat.{_+_, _≤_, _<_};
 ghost use lib.ListN.{length};
 ghost use Rattle.buffer.specs.Bytes.{stored};
 ghost use Rattle.buffer.specs.Text.{written, countWritten};
-ghost use Rattle.clip.specs.Answers.{numberOf};
 ghost use Rattle.cut.specs.Record.{floatAt, pointAt, windowAt, answerOf};
-ghost use Rattle.cut.specs.Line.{numberLine, keptLine, lineOf, textOf, room};
+ghost use Rattle.cut.specs.Line.{numberLine, keptLine, lineOf, Told, textOf, room};
 use answer::MISSED;
 use answer::TORN;
 use clip::Clipped;
@@ -44,7 +43,7 @@ pub fn put_text(s: &[u8], out: &mut [u8]) -> usize
 
 // The line of one answer; the place after it.
 fn put_line(out: &mut [u8], to: usize, c: Clipped) -> usize
-    requires { ⌜ (to + 70 ≤ length (now out)) × (numberOf c < 10) ⌝ }
+    requires { ⌜ (to + 70 ≤ length (now out)) × Told c ⌝ }
     ensures { λ r. ⌜ (r ≡ to + length (lineOf c)) × (now (out .exit) ≡ stored (now (out .entry)) to (lineOf c)) ⌝ }
 {
     match c {

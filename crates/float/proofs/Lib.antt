@@ -18,6 +18,9 @@ pub mod Monotone
 pub mod Quotient
 pub mod Plain
 pub mod Zero
+pub mod AtMost
+pub mod SumOrder
+pub mod ProductOrder
 pub mod Sums
 pub mod Unit
 pub mod Laws

@@ -43,7 +43,7 @@ lt-neg (fin s m e) (inf true) = refl
 lt-neg (fin s m e) (inf false) = refl
 lt-neg (fin s m e) (fin t n d) = below-neg s t (m * up e * down d) (n * up d * down e)
 
-neg-num : (x : Float) → Num x → Num (neg x)
+pub neg-num : (x : Float) → Num x → Num (neg x)
 unfolding isNan neg
 neg-num nan h = h
 neg-num (inf s) h = h
@@ -62,7 +62,7 @@ units-neg f q k = go (ltb (q * 2 ^ k) (overflow f)) q
     go true (suc q) = unfold neg odd in refl
     go false q = unfold neg in refl
 
-round-neg : (f : Format) (a b : ℕ) → round f true a b ≡ neg (round f false a b)
+pub round-neg : (f : Format) (a b : ℕ) → round f true a b ≡ neg (round f false a b)
 round-neg f a b = round-is f true a b ∙ units-neg f _ _ ∙ ap neg (sym (round-is f false a b))
 
 -- ---- by signs
@@ -85,13 +85,13 @@ module _ (f : Format) {b d : ℕ} (B : 0 < b) (D : 0 < d) where
       same false true = refl
       same false false = refl
 
-turned-le : (u v : ℕ) → leZ (negℤ (pos u)) (negℤ (pos v)) ≡ leb v u
+pub turned-le : (u v : ℕ) → leZ (negℤ (pos u)) (negℤ (pos v)) ≡ leb v u
 turned-le zero zero = refl
 turned-le zero (suc v) = sym (leb·suc-zero v)
 turned-le (suc u) zero = sym (leb·zero (suc u))
 turned-le (suc u) (suc v) = sym (leb·suc-suc v u)
 
-both-zero : (u v : ℕ) → leZ (pos u) (negℤ (pos v)) ≡ true → (u ≡ 0) × (v ≡ 0)
+pub both-zero : (u v : ℕ) → leZ (pos u) (negℤ (pos v)) ≡ true → (u ≡ 0) × (v ≡ 0)
 both-zero u zero h = (omega (arith, leb-true u 0 h), refl)
 both-zero u (suc v) h = absurd (false≢true h)
 

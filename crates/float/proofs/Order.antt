@@ -136,12 +136,20 @@ le-num (fin s m e) nan h = absurd (false≢true h)
 le-num (fin s m e) (inf t) h = (refl, refl)
 le-num (fin s m e) (fin t n d) h = (refl, refl)
 
-least : (z : Float) → Num z → le (inf true) z ≡ true
+-- the infinities are the least and the greatest
+pub least : (z : Float) → Num z → le (inf true) z ≡ true
 unfolding le isNan
 least nan h = absurd (true≢false h)
 least (inf true) h = refl
 least (inf false) h = refl
 least (fin t n d) h = refl
+
+pub most : (z : Float) → Num z → le z (inf false) ≡ true
+unfolding le isNan
+most nan h = absurd (true≢false h)
+most (inf true) h = refl
+most (inf false) h = refl
+most (fin t n d) h = refl
 
 pub le-trans : (x y z : Float) → le x y ≡ true → le y z ≡ true → le x z ≡ true
 le-trans nan y z p q = unfold le in absurd (false≢true p)
@@ -234,9 +242,6 @@ le-lt-trans x y z p q = go (le z x) refl
     go : (b : Bool) → le z x ≡ b → lt x z ≡ true
     go true e = absurd (false≢true (sym (lt-not-le y z q) ∙ le-trans z x y e p))
     go false e = not-le z x (le-num y z (lt-le y z q) .1) (le-num x y p .0) e
-
-pub lt-trans : (x y z : Float) → lt x y ≡ true → lt y z ≡ true → lt x z ≡ true
-lt-trans x y z p q = lt-le-trans x y z p (lt-le y z q)
 
 -- what lies between finite values is finite
 pub between : (x y z : Float) → finite x ≡ true → finite z ≡ true → le x y ≡ true → le y z ≡ true → finite y ≡ true

@@ -7,8 +7,8 @@ use lib.ListN.{replicate}
 use lib.Ieee.{Float}
 use Rattle.plane.specs.Point.{at}
 use Rattle.clip.specs.declared.Clipped.{Clipped}
-use Rattle.clip.specs.declared.Clipped.the-variants.{Kept, Missed, Refused}
-use Rattle.clip.specs.Answers.{clipped, meetsOrRefusal}
+use Rattle.clip.specs.declared.Segment.{Segment}
+use Rattle.clip.specs.Answers.{clipped, numberOf, pointsOf, meetsOrRefusal}
 use Rattle.cube.specs.Vector.{vec, zeroVector}
 use Rattle.cube.specs.Faces.{uv}
 use Rattle.cube.specs.Entries.{faceOrRefusal, faceUvOrRefusal}
@@ -20,9 +20,16 @@ use Rattle.walk.specs.Answers.{walkOrRefusal, bufferAfter}
 use Rattle.walk.specs.declared.compute.WalkAnswer.{WalkAnswer}
 use Rattle.instances.specs.Numbers.{n0, -n0, -n1, tiny, n2+, n¼, n½, n¾, n1, n1½, n2, n3, n4, huge, -huge, notANumber, x_to_y_to_}
 
--- kept from one point to another
-abbrev pub keptFrom : Float → Float → Float → Float → Clipped
-keptFrom ax ay bx by = Kept (record { ax = ax; ay = ay; bx = bx; by = by })
+-- an edge's answer: its number, and the kept points or zeros
+abbrev pub told : Clipped → ℕ × Segment
+told c = (numberOf c, pointsOf c)
+
+-- kept from one point to another; or a number alone
+abbrev pub keptFrom : Float → Float → Float → Float → ℕ × Segment
+keptFrom ax ay bx by = (0, record { ax = ax; ay = ay; bx = bx; by = by })
+
+abbrev pub only : ℕ → ℕ × Segment
+only n = (n, record { ax = n0; ay = n0; bx = n0; by = n0 })
 
 -- the walk with a normal from (0,0) of a face to (0,0) of a target, with so many bytes lent
 abbrev pub middle : Uv
@@ -46,18 +53,18 @@ threeRecords rest =
 
 pub record Instances : Type 0 where
   -- (0,0)-(4,2), window x 1..3, y 0..2
-  pub p1 : clipped (at n0 n0) (at n4 n2) (x n1 to n3 y n0 to n2) ≡ keptFrom n1 n½ n3 n1½
+  pub p1 : told (clipped (at n0 n0) (at n4 n2) (x n1 to n3 y n0 to n2)) ≡ keptFrom n1 n½ n3 n1½
   -- (0,2)-(4,0), same
-  pub p2 : clipped (at n0 n2) (at n4 n0) (x n1 to n3 y n0 to n2) ≡ keptFrom n1 n1½ n3 n½
+  pub p2 : told (clipped (at n0 n2) (at n4 n0) (x n1 to n3 y n0 to n2)) ≡ keptFrom n1 n1½ n3 n½
   -- (0,0)-(1,1), x 1..2, y 1..2
-  pub p3 : clipped (at n0 n0) (at n1 n1) (x n1 to n2 y n1 to n2) ≡ keptFrom n1 n1 n1 n1
+  pub p3 : told (clipped (at n0 n0) (at n1 n1) (x n1 to n2 y n1 to n2)) ≡ keptFrom n1 n1 n1 n1
   -- (0,0)-(1,1), x 0..0.25, y 0.75..1: missed, and edge_intersects_rect says no
-  pub p4 : clipped (at n0 n0) (at n1 n1) (x n0 to n¼ y n¾ to n1) ≡ Missed
+  pub p4 : told (clipped (at n0 n0) (at n1 n1) (x n0 to n¼ y n¾ to n1)) ≡ only 1
   pub p4-meets : meetsOrRefusal (at n0 n0) (at n1 n1) (x n0 to n¼ y n¾ to n1) ≡ record { number = 0; yes = false }
   -- b.y is NaN
-  pub p5 : clipped (at n0 n0) (at n4 notANumber) (x n1 to n3 y n0 to n2) ≡ Refused 2
+  pub p5 : told (clipped (at n0 n0) (at n4 notANumber) (x n1 to n3 y n0 to n2)) ≡ only 2
   -- (-2^1023,0)-(2^1023,1), x 0..1, y 0..1
-  pub p6 : clipped (at -huge n0) (at huge n1) (x n0 to n1 y n0 to n1) ≡ keptFrom n0 n0 n1 n0
+  pub p6 : told (clipped (at -huge n0) (at huge n1) (x n0 to n1 y n0 to n1)) ≡ keptFrom n0 n0 n1 n0
   -- face of (1,1,1), and of (-1,1,1): 0 at (1,1), 3 at (-1,-1)
   pub p7 : faceUvOrRefusal (vec n1 n1 n1) ≡ record { number = 0; face = 0; u = n1; v = n1 }
   pub p7-minus : faceUvOrRefusal (vec -n1 n1 n1) ≡ record { number = 0; face = 3; u = -n1; v = -n1 }

@@ -1,10 +1,9 @@
 -- The interval of two numbers: both lie in it, its ends are among them, and it is the least that has both.
-use mathlib.Core.Path.{_≡_, refl, sym, subst, _∙_}
+use mathlib.Core.Path.{_≡_, refl, sym, _∙_}
 use mathlib.Core.Bool.{Bool, true, false, not, _&&_, true≢false, false≢true}
-use mathlib.Core.Logic.{_⊎_, inl, inr}
 use lib.Ieee.{Float, lt, le, eq}
 use Rattle.float.specs.Choice.{when_then_else_}
-use Rattle.float.proofs.Choice.{then-is, else-is, cases}
+use Rattle.float.proofs.Choice.{then-is, else-is}
 use Rattle.float.proofs.Order.{Num, le-num, le-refl, lt-le, not-lt, lt-not-le, le-not-lt, le-eq, eq-both}
 use Rattle.plane.specs.Interval.{from_to_, lesser, greater, between, endOf}
 use Rattle.plane.specs.Within.{In, Part}
@@ -73,8 +72,3 @@ second-end a b m n =
     (λ e. sym (else-is _ _ _ _ (eq-both a b ∙ (rw (lt-not-le b a e))) refl))
     (λ e. sym (else-is _ _ _ _ (eq-both a b ∙ (rw (lt-le a b e, lt-not-le a b e))) refl))
     (λ e f. sym (then-is _ _ _ _ (le-eq a b (not-lt b a n m e) (not-lt a b m n f)) refl))
-
-pub b-end : (a b : Float) → Num a → Num b → (endOf (between a b) (not (lt b a)) ≡ b) ⊎ ((endOf (between a b) (not (lt b a)) ≡ a) × (eq a b ≡ true))
-b-end a b m n =
-    let P : Float → Type 0 = λ v. (v ≡ b) ⊎ ((v ≡ a) × (eq a b ≡ true)) in
-    subst P (second-end a b m n) (cases P (eq a b) a b (λ e. inr (refl, e)) (λ e. inl refl))

@@ -6,7 +6,7 @@ use Rattle.float.specs.Choice.{when_then_else_}
 use Rattle.float.proofs.Choice.{cases}
 use Rattle.float.proofs.Order.{Num, le-num, le-refl, le-trans, lt-le, not-lt, le-not-lt, between}
 use Rattle.plane.specs.Interval.{isEmpty, lesser, greater, endOf}
-use Rattle.plane.specs.Within.{In, Some, Part, Ends, SomeRect, PartRect, EndsRect}
+use Rattle.plane.specs.Within.{In, Some, Part, Ends, PartRect, EndsRect}
 use Rattle.plane.specs.declared.interval.Interval.{Interval}
 use Rattle.plane.specs.declared.rect.Rect.{Rect}
 
@@ -55,11 +55,5 @@ unfolding greater
 greater-above x y m n = cases (λ (c : Float). (le x c ≡ true) × (le y c ≡ true)) (lt x y) y x (λ h. (lt-le _ _ h, le-refl y n)) (λ h. (le-refl x m, not-lt x y m n h))
 
 -- ---- the same on both axes
-pub rect-refl : (r : Rect) → SomeRect r → PartRect r r
-rect-refl r h = record { x = part-refl _ (h .x); y = part-refl _ (h .y) }
-
-pub rect-trans : (r q s : Rect) → PartRect r q → PartRect q s → PartRect r s
-rect-trans r q s p o = record { x = part-trans _ _ _ (p .x) (o .x); y = part-trans _ _ _ (p .y) (o .y) }
-
 pub rect-ends : (r q : Rect) → PartRect r q → EndsRect q → EndsRect r
 rect-ends r q p e = record { x = part-ends _ _ (p .x) (e .x); y = part-ends _ _ (p .y) (e .y) }

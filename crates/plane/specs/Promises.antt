@@ -6,7 +6,7 @@ use mathlib.Core.Bool.{true, false}
 use lib.Ieee.{Float, eq}
 use Rattle.plane.specs.Point.{finitePoint}
 use Rattle.plane.specs.Interval.{from_to_, isEmpty, holds, contains, intersects, unionOf, intersectionOf, between, finiteInterval}
-use Rattle.plane.specs.Rect.{emptyRect, boxOf, containsPoint, intersectsRect, intersectionRect, finiteRect}
+use Rattle.plane.specs.Rect.{emptyRect, boxOf, containsPoint, containsRect, intersectsRect, unionRect, intersectionRect, finiteRect}
 use Rattle.plane.specs.Within.{In, Share, InRect, PartRect, ShareRect}
 use Rattle.plane.specs.declared.point.Point.{Point}
 use Rattle.plane.specs.declared.interval.Interval.{Interval}
@@ -20,8 +20,25 @@ pub record OfTwo (i j : Interval) : Type 0 where
   pub contains-all : contains i j ≡ true ↔ ((x : Float) → In j x → In i x)
   -- a number is in the intersection exactly where it is in both
   pub in-both : (x : Float) → In (intersectionOf i j) x ↔ (In i x × In j x)
-  -- a number in either is in the union
+  -- a number in either is in the union, which contains both
   pub in-either : (x : Float) → In i x ⊎ In j x → In (unionOf i j) x
+  pub union-contains : (contains (unionOf i j) i ≡ true) × (contains (unionOf i j) j ≡ true)
+
+-- of two rectangles with finite sides, as the entries take them
+pub record OfTwoRects (r q : Rect) : Type 0 where
+  -- they intersect exactly where they share a point
+  pub rects-share : intersectsRect r q ≡ true ↔ ShareRect r q
+  -- the first contains the second exactly where, on each axis, every number in the second is in the first
+  pub contains-axes : containsRect r q ≡ true
+      ↔ (((x : Float) → In (q .x) x → In (r .x) x) × ((y : Float) → In (q .y) y → In (r .y) y))
+  -- for a second that is empty on both axes or on neither: exactly where every point in the second is in the first.
+  -- One that is empty on one axis alone has no point, and its other axis is still asked for.
+  pub contains-points : isEmpty (q .x) ≡ isEmpty (q .y) → containsRect r q ≡ true ↔ ((p : Point) → InRect q p → InRect r p)
+  -- a point is in the intersection exactly where it is in both
+  pub points-both : (p : Point) → InRect (intersectionRect r q) p ↔ (InRect r p × InRect q p)
+  -- a point in either is in the union, which contains both
+  pub points-either : (p : Point) → InRect r p ⊎ InRect q p → InRect (unionRect r q) p
+  pub union-both : (containsRect (unionRect r q) r ≡ true) × (containsRect (unionRect r q) q ≡ true)
 
 pub record Promises : Type 0 where
   -- closed: it holds a number exactly where lo <= the number <= hi
@@ -36,7 +53,8 @@ pub record Promises : Type 0 where
   pub of-two : (i j : Interval) → finiteInterval i ≡ true → finiteInterval j ≡ true → OfTwo i j
   -- a rectangle: the same on both axes
   pub contains-in : (r : Rect) (p : Point) → containsPoint r p ≡ true ↔ InRect r p
-  pub rects-share : (r q : Rect) → finiteRect r ≡ true → finiteRect q ≡ true → intersectsRect r q ≡ true ↔ ShareRect r q
+  pub of-two-rects : (r q : Rect) → finiteRect r ≡ true → finiteRect q ≡ true → OfTwoRects r q
+  pub union-least-rect : (r q s : Rect) → containsRect s r ≡ true → containsRect s q ≡ true → containsRect s (unionRect r q) ≡ true
   -- `intersection` gives the empty rectangle when either axis comes out empty, and only then
   pub empty-axis : (r q : Rect) → intersectionRect r q ≡ emptyRect
       ↔ ((isEmpty (intersectionOf (r .x) (q .x)) ≡ true) ⊎ (isEmpty (intersectionOf (r .y) (q .y)) ≡ true))

@@ -111,8 +111,9 @@ no-words xs ys to n h e =
 
 -- a kept point lies in the window, so it is no NaN
 pub kept-numbers : (a b : Point) (w : Rect) (s : Segment) → clipped a b w ≡ Kept s → Numbers s
+unfolding numberOf pointsOf
 kept-numbers a b w s e =
-    let k = promises .kept-points a b w s e .0 in
+    let k = (rw e at (promises .kept-points a b w (rw e))) .0 in
     record {
       ax = number _ _ (k .a .x .low);
       ay = number _ _ (k .a .y .low);

@@ -1,15 +1,12 @@
 -- An edge's answer for C: the number, and the kept points or zeros.
 use Prim.Native.Nat.{ℕ}
-use Rattle.answer.specs.Answer.{done, missed}
 use Rattle.plane.specs.Point.{at, origin}
 use Rattle.clip.specs.declared.Clipped.{Clipped}
-use Rattle.clip.specs.declared.Clipped.the-variants.{Kept, Missed, Refused}
+use Rattle.clip.specs.Answers.{numberOf, pointsOf}
 use Rattle.umblacet.specs.declared.cuts.Cut.{Cut}
 
 abbrev pub noCut : ℕ → Cut
 noCut n = record { number = n; a = origin; b = origin }
 
 unfoldable pub cutOf : Clipped → Cut
-cutOf (Kept s) = record { number = done; a = at (s .ax) (s .ay); b = at (s .bx) (s .by) }
-cutOf Missed = noCut missed
-cutOf (Refused n) = noCut n
+cutOf c = let s = pointsOf c in record { number = numberOf c; a = at (s .ax) (s .ay); b = at (s .bx) (s .by) }

@@ -1,7 +1,7 @@
 -- `second` is its definition: a case for each branch.
 use borrow.Author.Needs.{needs}
 use Rattle.float.proofs.Choice.{branches}
-use Rattle.clip.specs.Early.{second}
+use Rattle.clip.specs.Answers.{second}
 use Rattle.clip.proofs.second.Statement.{statement}
 use Rattle.clip.proofs.second.Tie as tie
 

@@ -14,23 +14,23 @@ of-points-requires c κs = search needs
 enum-told : tie.Need-enum-told
 enum-told c = search needs
 
-only-requires : tie.Need-only-requires
-only-requires c κs = search needs
+of-points-requires-2 : tie.Need-of-points-requires-2
+of-points-requires-2 c κs = search needs
 
 enum-known-c-2 : tie.Need-enum-known-c-2
 enum-known-c-2 c = search needs
 
-only-requires-2 : tie.Need-only-requires-2
-only-requires-2 c κs = search needs
+of-points-requires-3 : tie.Need-of-points-requires-3
+of-points-requires-3 c κs = search needs
 
 returns : tie.Need-returns
 returns c = c .of-points .ensures ∙ reply-kept _ _ (cc)
 
 returns-2 : tie.Need-returns-2
-returns-2 c = c .only .ensures ∙ reply-missed _ (cc)
+returns-2 c = c .of-points2 .ensures ∙ reply-missed _ (cc)
 
 returns-3 : tie.Need-returns-3
-returns-3 c = c .only2 .ensures ∙ reply-refused _ _ (cc)
+returns-3 c = c .of-points3 .ensures ∙ reply-refused _ _ (cc)
 
 pub of-clipped-spec : {M : Type 1} → statement M
 of-clipped-spec =
@@ -39,9 +39,9 @@ of-clipped-spec =
     enum-known-c
     of-points-requires
     enum-told
-    only-requires
+    of-points-requires-2
     enum-known-c-2
-    only-requires-2
+    of-points-requires-3
     returns
     returns-2
     returns-3)

@@ -4,7 +4,7 @@ use mathlib.Core.Path.{ap}
 use native.Mathlib.Omega.{arith}
 use Rattle.buffer.proofs.Text.{Writing, none-written, writing-starts, line-written, whole-written, torn-written}
 use Rattle.cut.specs.Line.{lineOf, recordLine, tornLine}
-use Rattle.cut.proofs.Text.{length-number, record-digit, line-room}
+use Rattle.cut.proofs.Text.{length-number, record-told, line-room}
 use borrow.Author.Needs.{needs}
 use Rattle.cut.proofs.lines.put_text.Statement.{statement}
 use Rattle.cut.proofs.lines.put_text.Tie as tie
@@ -49,7 +49,7 @@ answer-of-requires : tie.Need-answer-of-requires Inv-loop μ-loop
 answer-of-requires c κs = search needs
 
 put-line-requires : tie.Need-put-line-requires Inv-loop μ-loop
-put-line-requires c κs = (omega arith, rw (c .answer-of .ensures) (record-digit _))
+put-line-requires c κs = (omega arith, rw (c .answer-of .ensures) (record-told _))
 
 add-i : tie.Need-add-i Inv-loop μ-loop
 add-i c = omega arith
