@@ -7,7 +7,8 @@ use lib.ListN.{length, length-append}
 use lib.Ieee.{binary64, toBits}
 use Rattle.buffer.specs.Bytes.{bytesOf, stored, placed}
 use Rattle.buffer.proofs.Stored.{placed-fits, placed-not, placed-length, placed-then, length-bytes}
-use Rattle.record.specs.Record.{headBytes, fiveWords, recordBytes}
+use Rattle.record.specs.Record.{headBytes, recordBytes}
+use Rattle.record.specs.Inner.{fiveWords}
 use Rattle.record.specs.declared.Ends.{Ends}
 
 -- the word of the head: its low byte is the first, its high half whose the record is

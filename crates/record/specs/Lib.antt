@@ -1,2 +1,3 @@
 -- The 40-byte record.
 pub mod Record
+pub mod Inner

@@ -14,7 +14,3 @@ headBytes first whose = first ∷ 0 ∷ 0 ∷ 0 ∷ bytesOf 4 whose
 
 unfoldable pub recordBytes : ℕ → ℕ → Ends → List ℕ
 recordBytes first whose e = headBytes first whose ++ (floatBytes (e .au) ++ (floatBytes (e .av) ++ (floatBytes (e .bu) ++ floatBytes (e .bv))))
-
--- five words, one after the other
-unfoldable pub fiveWords : ℕ → ℕ → ℕ → ℕ → ℕ → List ℕ
-fiveWords h i j k l = bytesOf 8 h ++ (bytesOf 8 i ++ (bytesOf 8 j ++ (bytesOf 8 k ++ bytesOf 8 l)))

@@ -2,7 +2,8 @@
 // four floats' bits, all little-endian.
 ghost use mathlib.Core.Path.{_≡_};
 ghost use Rattle.buffer.specs.Bytes.{bytesOf, placed};
-ghost use Rattle.record.specs.Record.{headBytes, fiveWords, recordBytes};
+ghost use Rattle.record.specs.Record.{headBytes, recordBytes};
+ghost use Rattle.record.specs.Inner.{fiveWords};
 
 // The bytes of a record.
 pub const LENGTH: usize = 40;

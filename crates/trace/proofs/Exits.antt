@@ -17,7 +17,7 @@ use Rattle.plane.specs.declared.rect.Rect.{Rect}
 use Rattle.clip.specs.Refuse.{windowFine}
 use Rattle.trace.specs.Trace.{traceCuts}
 use Rattle.trace.specs.Records.{recordsOf, isKept, isMissed, isRefused, howMany}
-use Rattle.trace.specs.Known.{Admitted}
+use Rattle.trace.specs.Inner.{Admitted}
 use Rattle.trace.specs.Refuse.{traceFine, roomFor, inOrder, traceNumber}
 use Rattle.trace.specs.Answers.{noEdges, traceAnswer, answerOf, bufferAfter}
 use Rattle.trace.specs.declared.TraceAnswer.{TraceAnswer}

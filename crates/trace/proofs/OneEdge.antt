@@ -26,10 +26,11 @@ use Rattle.clip.specs.declared.Clipped.the-variants.{Kept, Missed, Refused}
 use Rattle.clip.proofs.Turns.{four-sides}
 use Rattle.clip.proofs.Promises.{promises}
 use Rattle.buffer.specs.Bytes.{bytesOf, placed}
-use Rattle.record.specs.Record.{headBytes, fiveWords, recordBytes}
+use Rattle.record.specs.Record.{headBytes, recordBytes}
+use Rattle.record.specs.Inner.{fiveWords}
 use Rattle.record.proofs.Words.{head-is, record-words}
 use Rattle.record.specs.declared.Ends.{Ends}
-use Rattle.trace.specs.Known.{sampleOf, Seen, counted, Numbers}
+use Rattle.trace.specs.Inner.{sampleOf, Seen, counted, Numbers}
 use Rattle.trace.specs.Records.{noEnds, endsOf, cutBytes, isKept, isRefused}
 use Rattle.trace.specs.declared.edge.Sample.{Sample}
 use Rattle.trace.specs.declared.edge.Counts.{Counts}

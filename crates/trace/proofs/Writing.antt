@@ -18,7 +18,7 @@ use Rattle.plane.specs.declared.point.Point.{Point}
 use Rattle.plane.specs.declared.rect.Rect.{Rect}
 use Rattle.clip.specs.Answers.{clipped}
 use Rattle.clip.specs.declared.Clipped.{Clipped}
-use Rattle.trace.specs.Known.{sampleOf, counted}
+use Rattle.trace.specs.Inner.{sampleOf, counted}
 use Rattle.trace.specs.declared.edge.Sample.{Sample}
 use Rattle.trace.specs.declared.edge.Counts.{Counts}
 use Rattle.trace.specs.Trace.{samplesOf, edgeCut, cutsFrom, cutsOf, traceCuts}

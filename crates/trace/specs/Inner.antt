@@ -1,4 +1,4 @@
--- What is known where nothing was refused: the private functions ask for it.
+-- What the functions inside ask for: what is known where nothing was refused. No entry's contract and no promise cites it: a reader of those can pass it over.
 use Prim.Native.Nat.{ℕ, _+_, _%_, _≤_}
 use mathlib.Core.Path.{_≡_}
 use mathlib.Core.Bool.{true, not}
