@@ -48,7 +48,7 @@ same-length-3 : tie.Need-same-length-3
 same-length-3 c = search needs
 
 returns-3 : tie.Need-returns-3
-returns-3 c = line-end _ _ _ 2 _ _ (c .before .before .put-number2 .ensures) (line-refused _ _ (cc) (c .before .before .before .before .before .before .pre .1)) (length-number _)
+returns-3 c = line-end _ _ _ 2 _ _ (c .before .before .put-number2 .ensures) (line-refused _ _ (cc) (c .before .before .before .before .before .before .before .before .pre .1)) (length-number _)
 
 pub put-line-spec : {M : Type 1} → statement M
 put-line-spec =
