@@ -1,4 +1,5 @@
 -- The entry `clip_bound_axis`.
+use mathlib.Core.Path.{_∙_}
 use Rattle.answer.proofs.Beside.{ask-done, ask-other}
 use Rattle.clip.proofs.Cases.{axes-refused}
 use Rattle.clip.specs.Answers.{axisOrRefusal}
@@ -14,7 +15,7 @@ answer-requires c κs = search needs
 
 returns : tie.Need-returns
 unfolding axisOrRefusal
-returns c = ask-other _ _ _ _ _ (c .before .before .axis .ensures) (c .before .if1 .taken) (cc (axes-refused _ (c .before .if1 .taken) _ _))
+returns c = ask-other _ _ _ _ _ (c .before .before .axis .ensures) (c .before .if1 .taken) (rw (c .before .before .axis .ensures) at (c .answer .ensures ∙ axes-refused _ (c .before .if1 .taken) _ _))
 
 clip-bound-axis-requires : tie.Need-clip-bound-axis-requires
 clip-bound-axis-requires c κs = search needs
@@ -24,7 +25,7 @@ axis-answer-requires c κs = search needs
 
 returns-2 : tie.Need-returns-2
 unfolding axisOrRefusal
-returns-2 c = ask-done _ _ _ _ _ (c .before .before .before .axis .ensures) (c .before .before .if1 .left) (cc)
+returns-2 c = ask-done _ _ _ _ _ (c .before .before .before .axis .ensures) (c .before .before .if1 .left) (rw (c .before .clip-bound-axis .ensures) at (c .axis-answer .ensures))
 
 pub clip-bound-axis-spec : {M : Type 1} → statement M
 clip-bound-axis-spec =

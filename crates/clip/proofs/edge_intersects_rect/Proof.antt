@@ -13,7 +13,7 @@ answer-requires : tie.Need-answer-requires
 answer-requires c κs = search needs
 
 returns : tie.Need-returns
-returns c = cc
+returns c = rw (c .before .edge-intersects-rect .ensures, c .before .before .edge .ensures) at (c .answer .ensures)
 
 pub edge-intersects-rect-spec : {M : Type 1} → statement M
 edge-intersects-rect-spec =

@@ -13,7 +13,7 @@ answer-requires : tie.Need-answer-requires
 answer-requires c κs = search needs
 
 returns : tie.Need-returns
-returns c = cc
+returns c = rw (c .before .interpolate .ensures, c .before .before .value .ensures) at (c .answer .ensures)
 
 pub interpolate-spec : {M : Type 1} → statement M
 interpolate-spec = tie.close (tie.spec value-requires interpolate-requires answer-requires returns)

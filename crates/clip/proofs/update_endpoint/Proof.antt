@@ -1,4 +1,5 @@
 -- The entry `update_endpoint`.
+use mathlib.Core.Path.{_∙_}
 use Rattle.answer.proofs.Beside.{ask-done, ask-other}
 use Rattle.clip.proofs.Cases.{end-refused}
 use Rattle.clip.specs.Answers.{endOrRefusal}
@@ -14,7 +15,7 @@ answer-requires c κs = search needs
 
 returns : tie.Need-returns
 unfolding endOrRefusal
-returns c = ask-other _ _ _ _ _ (c .before .before .end .ensures) (c .before .if1 .taken) (cc (end-refused _ (c .before .if1 .taken) _))
+returns c = ask-other _ _ _ _ _ (c .before .before .end .ensures) (c .before .if1 .taken) (rw (c .before .before .end .ensures) at (c .answer .ensures ∙ end-refused _ (c .before .if1 .taken) _))
 
 update-endpoint-requires : tie.Need-update-endpoint-requires
 update-endpoint-requires c κs = search needs
@@ -24,7 +25,7 @@ end-answer-requires c κs = search needs
 
 returns-2 : tie.Need-returns-2
 unfolding endOrRefusal
-returns-2 c = ask-done _ _ _ _ _ (c .before .before .before .end .ensures) (c .before .before .if1 .left) (cc)
+returns-2 c = ask-done _ _ _ _ _ (c .before .before .before .end .ensures) (c .before .before .if1 .left) (rw (c .before .update-endpoint .ensures) at (c .end-answer .ensures))
 
 pub update-endpoint-spec : {M : Type 1} → statement M
 update-endpoint-spec =

@@ -4,10 +4,10 @@ use Rattle.clip.proofs.AxesAnswer.answer.Statement.{statement}
 use Rattle.clip.proofs.AxesAnswer.answer.Tie as tie
 
 returns : tie.Need-returns
-returns c = cc (beside-done _ _ _ (c .if1 .taken))
+returns c = rw (← beside-done _ _ _ (c .if1 .taken))
 
 returns-2 : tie.Need-returns-2
-returns-2 c = cc (beside-other _ _ _ (c .if1 .left))
+returns-2 c = rw (← beside-other _ _ _ (c .if1 .left))
 
 pub answer-spec : {M : Type 1} → statement M
 answer-spec = tie.close (tie.spec returns returns-2)

@@ -18,7 +18,7 @@ at-end-requires-4 c κs = search needs
 
 returns : tie.Need-returns
 unfolding ends
-returns c = cc
+returns c = rw (c .at-end4 .ensures, c .before .before .before .at-end3 .ensures, c .before .before .before .before .before .before .at-end2 .ensures, c .before .before .before .before .before .before .before .before .before .at-end .ensures)
 
 pub ends-spec : {M : Type 1} → statement M
 ends-spec =

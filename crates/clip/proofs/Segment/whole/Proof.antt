@@ -10,7 +10,7 @@ second-requires-2 : tie.Need-second-requires-2
 second-requires-2 c κs = search needs
 
 returns : tie.Need-returns
-returns c = cc
+returns c = rw (c .second2 .ensures, c .before .second .ensures)
 
 pub whole-spec : {M : Type 1} → statement M
 whole-spec = tie.close (tie.spec second-requires second-requires-2 returns)

@@ -1,5 +1,5 @@
 -- `clip_side` is `sideCut`.
-use Rattle.float.proofs.Choice.{then-is, else-is}
+use Rattle.float.proofs.Choice.{ask-yes, ask-no}
 use mathlib.Core.Path.{refl}
 use Rattle.clip.specs.Cut.{sideCut}
 use borrow.Author.Needs.{needs}
@@ -23,7 +23,7 @@ is-inward-requires-2 c κs = search needs
 
 returns : tie.Need-returns
 unfolding sideCut
-returns c = then-is _ _ _ _ (cc) (then-is _ _ _ _ (cc) refl)
+returns c = ask-yes _ _ _ _ _ (rw (c .before .before .before .before .before .at-end2 .ensures, c .before .before .before .before .before .before .at-end .ensures) at (c .before .before .before .before .is-inward .ensures)) (c .before .before .before .if1 .taken) (ask-yes _ _ _ _ _ (rw (c .before .before .at-end3 .ensures, c .before .before .before .before .before .before .at-end .ensures) at (c .before .is-inward2 .ensures)) (c .if2 .taken) refl)
 
 interpolate-requires : tie.Need-interpolate-requires
 interpolate-requires c κs = search needs
@@ -39,11 +39,11 @@ move-other-requires c κs = search needs
 
 returns-2 : tie.Need-returns-2
 unfolding sideCut
-returns-2 c = then-is _ _ _ _ (cc) (else-is _ _ _ _ (cc) (cc))
+returns-2 c = ask-yes _ _ _ _ _ (rw (c .before .before .before .before .before .before .before .before .before .at-end2 .ensures, c .before .before .before .before .before .before .before .before .before .before .at-end .ensures) at (c .before .before .before .before .before .before .before .before .is-inward .ensures)) (c .before .before .before .before .before .before .before .if1 .taken) (ask-no _ _ _ _ _ (rw (c .before .before .before .before .before .before .at-end3 .ensures, c .before .before .before .before .before .before .before .before .before .before .at-end .ensures) at (c .before .before .before .before .before .is-inward2 .ensures)) (c .before .before .before .before .if2 .left) (rw (c .before .update-endpoint .ensures, c .before .before .with-end .ensures, c .before .before .before .interpolate .ensures, c .before .before .before .before .before .before .before .before .before .before .at-end .ensures) at (c .move-other .ensures)))
 
 returns-3 : tie.Need-returns-3
 unfolding sideCut
-returns-3 c = else-is _ _ _ _ (cc) refl
+returns-3 c = ask-no _ _ _ _ _ (rw (c .before .before .at-end2 .ensures, c .before .before .before .at-end .ensures) at (c .before .is-inward .ensures)) (c .if1 .left) refl
 
 pub clip-side-spec : {M : Type 1} → statement M
 clip-side-spec =

@@ -14,11 +14,11 @@ off-line-requires-2 c κs = search needs
 
 returns : tie.Need-returns
 unfolding crossed
-returns c = then-is _ _ _ _ (cc) (cc)
+returns c = then-is _ _ _ _ (rw (c .before .before .off-line .ensures) at (c .before .if1 .taken)) (rw (c .off-line2 .ensures))
 
 returns-2 : tie.Need-returns-2
 unfolding crossed
-returns-2 c = else-is _ _ _ _ (cc) refl
+returns-2 c = else-is _ _ _ _ (rw (c .before .off-line .ensures) at (c .if1 .left)) refl
 
 pub corners-cross-spec : {M : Type 1} → statement M
 corners-cross-spec = tie.close (tie.spec off-line-requires off-line-requires-2 returns returns-2)

@@ -1,5 +1,5 @@
 -- `edge_intersects_rect` is `edgeMeets`: the box test, then the corners.
-use Rattle.float.proofs.Choice.{then-is, else-is}
+use Rattle.float.proofs.Choice.{ask-yes, ask-no}
 use mathlib.Core.Path.{refl}
 use Rattle.clip.specs.Cut.{edgeMeets}
 use borrow.Author.Needs.{needs}
@@ -23,11 +23,11 @@ corners-cross-requires c κs = search needs
 
 returns : tie.Need-returns
 unfolding edgeMeets
-returns c = then-is _ _ _ _ (cc) (rw (c .corners-cross .ensures, c .before .ortho .ensures, c .before .before .difference .ensures))
+returns c = ask-yes _ _ _ _ _ (rw (c .before .before .before .before .before .from-points .ensures) at (c .before .before .before .before .intersects .ensures)) (c .before .before .before .if1 .taken) (rw (c .corners-cross .ensures, c .before .ortho .ensures, c .before .before .difference .ensures))
 
 returns-2 : tie.Need-returns-2
 unfolding edgeMeets
-returns-2 c = else-is _ _ _ _ (cc) refl
+returns-2 c = ask-no _ _ _ _ _ (rw (c .before .before .from-points .ensures) at (c .before .intersects .ensures)) (c .if1 .left) refl
 
 pub edge-intersects-rect-spec : {M : Type 1} → statement M
 edge-intersects-rect-spec =

@@ -10,10 +10,10 @@ move-end-requires-2 : tie.Need-move-end-requires-2
 move-end-requires-2 c κs = search needs
 
 returns : tie.Need-returns
-returns c = cc
+returns c = rw (c .before .if1 .taken) (c .move-end .ensures)
 
 returns-2 : tie.Need-returns-2
-returns-2 c = cc
+returns-2 c = rw (c .before .if1 .left) (c .move-end2 .ensures)
 
 pub update-endpoint-spec : {M : Type 1} → statement M
 update-endpoint-spec = tie.close (tie.spec move-end-requires move-end-requires-2 returns returns-2)

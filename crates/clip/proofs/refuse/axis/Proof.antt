@@ -31,7 +31,7 @@ in-order-requires : tie.Need-in-order-requires
 in-order-requires c κs = search needs
 
 returns : tie.Need-returns
-returns c = cc
+returns c = rw (c .before .sides-fine .ensures, c .before .before .both3 .ensures, c .before .before .before .both2 .ensures, c .before .before .before .before .bound-fine2 .ensures, c .before .before .before .before .before .bound-fine .ensures, c .before .before .before .before .before .before .both .ensures, c .before .before .before .before .before .before .before .coordinates2 .ensures, c .before .before .before .before .before .before .before .before .coordinates .ensures) at (c .in-order .ensures)
 
 pub axis-spec : {M : Type 1} → statement M
 axis-spec =

@@ -19,7 +19,7 @@ in-order-requires : tie.Need-in-order-requires
 in-order-requires c κs = search needs
 
 returns : tie.Need-returns
-returns c = cc
+returns c = rw (c .before .window-fine .ensures, c .before .before .both .ensures, c .before .before .before .box-fine .ensures, c .before .before .before .before .points-fine .ensures) at (c .in-order .ensures)
 
 pub bound-spec : {M : Type 1} → statement M
 bound-spec =

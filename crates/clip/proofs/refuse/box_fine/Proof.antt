@@ -13,7 +13,7 @@ both-requires : tie.Need-both-requires
 both-requires c κs = search needs
 
 returns : tie.Need-returns
-returns c = cc
+returns c = rw (c .before .bound-fine2 .ensures, c .before .before .bound-fine .ensures) at (c .both .ensures)
 
 pub box-fine-spec : {M : Type 1} → statement M
 box-fine-spec =

@@ -13,7 +13,7 @@ both-requires : tie.Need-both-requires
 both-requires c κs = search needs
 
 returns : tie.Need-returns
-returns c = cc
+returns c = rw (c .before .is-coordinate2 .ensures, c .before .before .is-coordinate .ensures) at (c .both .ensures)
 
 pub coordinates-spec : {M : Type 1} → statement M
 coordinates-spec =

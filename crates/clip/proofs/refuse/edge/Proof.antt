@@ -13,7 +13,7 @@ in-order-requires : tie.Need-in-order-requires
 in-order-requires c κs = search needs
 
 returns : tie.Need-returns
-returns c = cc
+returns c = rw (c .before .window-fine .ensures, c .before .before .points-fine .ensures) at (c .in-order .ensures)
 
 pub edge-spec : {M : Type 1} → statement M
 edge-spec =

@@ -16,7 +16,7 @@ in-order-requires : tie.Need-in-order-requires
 in-order-requires c κs = search needs
 
 returns : tie.Need-returns
-returns c = cc
+returns c = rw (c .before .both .ensures, c .before .before .is-coordinate .ensures, c .before .before .before .bound-fine .ensures) at (c .in-order .ensures)
 
 pub end-spec : {M : Type 1} → statement M
 end-spec =

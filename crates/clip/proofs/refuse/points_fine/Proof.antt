@@ -13,7 +13,7 @@ both-requires : tie.Need-both-requires
 both-requires c κs = search needs
 
 returns : tie.Need-returns
-returns c = cc
+returns c = rw (c .before .point-fine2 .ensures, c .before .before .point-fine .ensures) at (c .both .ensures)
 
 pub points-fine-spec : {M : Type 1} → statement M
 points-fine-spec =

@@ -22,7 +22,7 @@ in-order-requires : tie.Need-in-order-requires
 in-order-requires c κs = search needs
 
 returns : tie.Need-returns
-returns c = cc
+returns c = rw (c .before .both2 .ensures, c .before .before .is-coordinate .ensures, c .before .before .before .both .ensures, c .before .before .before .before .coordinates2 .ensures, c .before .before .before .before .before .coordinates .ensures) at (c .in-order .ensures)
 
 pub value-spec : {M : Type 1} → statement M
 value-spec =

@@ -15,7 +15,7 @@ both-requires c κs = search needs
 
 returns : tie.Need-returns
 unfolding windowFine
-returns c = cc
+returns c = rw (c .before .sides-fine2 .ensures, c .before .before .sides-fine .ensures) at (c .both .ensures)
 
 pub window-fine-spec : {M : Type 1} → statement M
 window-fine-spec =
