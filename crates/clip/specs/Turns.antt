@@ -1,4 +1,4 @@
--- The same cut side by side, as the code's one loop goes: so many sides in turn, the axes changing places after each high one.
+-- The same cut side by side, as the code's one loop goes: so many sides in turn, the axes changing places after each high one. No entry's contract and no promise cites it: a reader of those can pass it over.
 use Prim.Native.Nat.{ℕ, zero, suc}
 use mathlib.Core.Bool.{Bool, true, false}
 use lib.Ieee.{Float}
@@ -15,19 +15,19 @@ use Rattle.clip.specs.declared.compute.BoxCut.{BoxCut}
 use Rattle.clip.specs.declared.compute.BoxCut.the-variants.{Inside, Outside}
 use Rattle.clip.specs.Cut.{sideCut}
 
-abbrev pub axisOf : Float → Float → Interval → Interval → Axis
-axisOf a b bound clip = record { a = a; b = b; bound = bound; clip = clip }
+abbrev pub axisWith : Float → Float → Interval → Interval → Axis
+axisWith a b bound clip = record { a = a; b = b; bound = bound; clip = clip }
 
 -- the two axes of the line from a to b, of a window and of a box
 abbrev pub axisX : Point → Point → Rect → Rect → Axis
-axisX a b window box = axisOf (a .x) (b .x) (box .x) (window .x)
+axisX a b window box = axisWith (a .x) (b .x) (box .x) (window .x)
 
 abbrev pub axisY : Point → Point → Rect → Rect → Axis
-axisY a b window box = axisOf (a .y) (b .y) (box .y) (window .y)
+axisY a b window box = axisWith (a .y) (b .y) (box .y) (window .y)
 
 -- the axis with what is left of its bound
 abbrev pub boundedBy : Axis → Interval → Axis
-boundedBy t i = axisOf (t .a) (t .b) i (t .clip)
+boundedBy t i = axisWith (t .a) (t .b) i (t .clip)
 
 -- the cut of one side, on two axes
 abbrev pub turnCut : Bool → Axis → Axis → Bool → AxisCut

@@ -2,7 +2,7 @@
 ghost use mathlib.Core.Path.{_≡_};
 ghost use mathlib.Core.Bool.{false};
 ghost use Rattle.clip.specs.Cut.{valueAt, inward, withEnd, movedEnd, sideCut, axisCut, negativeSlope, otherMoved, offLine, crossed, edgeMeets};
-ghost use Rattle.clip.specs.Turns.{axisOf, axisX, axisY, sidesCut};
+ghost use Rattle.clip.specs.Turns.{axisWith, axisX, axisY, sidesCut};
 use plane::Interval;
 use plane::Point;
 use plane::Rect;
@@ -93,7 +93,7 @@ pub fn cut_sides(sides: u8, a: Point, b: Point, neg_slope: bool, clip: Rect, bou
 
 impl Axis {
     fn of(a: f64, b: f64, bound: Interval, clip: Interval) -> Self
-        ensures { λ r. ⌜ r ≡ axisOf a b bound clip ⌝ }
+        ensures { λ r. ⌜ r ≡ axisWith a b bound clip ⌝ }
     {
         Axis { a, b, bound, clip }
     }
