@@ -6,8 +6,7 @@ use mathlib.Core.List.{List, _++_}
 use lib.ListN.{length, length-append}
 use Rattle.buffer.specs.Bytes.{stored, placed}
 use Rattle.buffer.proofs.Stored.{placed-length, placed-then}
-use Rattle.record.specs.Record.{recordBytes}
-use Rattle.record.specs.declared.Ends.{Ends}
+use Rattle.record.specs.Record.{Ends, recordBytes}
 use Rattle.record.proofs.Words.{length-record}
 
 pub record Ahead (xs ys : List ℕ) (to : ℕ) (rest all : List ℕ) : Type 0 where

@@ -1,3 +1,2 @@
 -- The 40-byte record.
 pub mod Record
-pub mod Inner

@@ -3,14 +3,21 @@ use Prim.Native.Nat.{ℕ}
 use mathlib.Core.List.{List, _∷_, _++_}
 use lib.Ieee.{Float, binary64, toBits}
 use Rattle.buffer.specs.Bytes.{bytesOf}
-use Rattle.record.specs.declared.Ends.{Ends}
-
-abbrev pub floatBytes : Float → List ℕ
-floatBytes x = bytesOf 8 (toBits binary64 x)
 
 -- the first eight bytes
 unfoldable pub headBytes : ℕ → ℕ → List ℕ
 headBytes first whose = first ∷ 0 ∷ 0 ∷ 0 ∷ bytesOf 4 whose
 
+-- a record with these bits for its floats
+unfoldable pub recordOf : ℕ → ℕ → ℕ → ℕ → ℕ → ℕ → List ℕ
+recordOf first whose au av bu bv = headBytes first whose ++ (bytesOf 8 au ++ (bytesOf 8 av ++ (bytesOf 8 bu ++ bytesOf 8 bv)))
+
+-- the two points of a record
+pub record Ends : Type 0 where
+  pub au : Float
+  pub av : Float
+  pub bu : Float
+  pub bv : Float
+
 unfoldable pub recordBytes : ℕ → ℕ → Ends → List ℕ
-recordBytes first whose e = headBytes first whose ++ (floatBytes (e .au) ++ (floatBytes (e .av) ++ (floatBytes (e .bu) ++ floatBytes (e .bv))))
+recordBytes first whose e = recordOf first whose (toBits binary64 (e .au)) (toBits binary64 (e .av)) (toBits binary64 (e .bu)) (toBits binary64 (e .bv))

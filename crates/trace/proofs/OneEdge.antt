@@ -5,7 +5,7 @@ use mathlib.Core.Bool.{Bool, true, false, not}
 use mathlib.Core.List.{List}
 use native.Mathlib.Omega.{arith}
 use lib.Dec.{T}
-use lib.Ieee.{Float, lt, le, unlike, isNan, ofBits, toBits}
+use lib.Ieee.{Float, lt, le, unlike, isNan}
 use Rattle.float.specs.Choice.{when_then_else_, _and_}
 use Rattle.float.proofs.Choice.{then-is, else-is}
 use Rattle.float.proofs.Order.{le-num}
@@ -25,11 +25,8 @@ use Rattle.clip.specs.declared.Clipped.{Clipped}
 use Rattle.clip.specs.declared.Clipped.the-variants.{Kept, Missed, Refused}
 use Rattle.clip.proofs.Turns.{four-sides}
 use Rattle.clip.proofs.Promises.{promises}
-use Rattle.buffer.specs.Bytes.{bytesOf, placed}
-use Rattle.record.specs.Record.{headBytes, recordBytes}
-use Rattle.record.specs.Inner.{fiveWords}
-use Rattle.record.proofs.Words.{head-is, record-words}
-use Rattle.record.specs.declared.Ends.{Ends}
+use Rattle.buffer.specs.Bytes.{placed}
+use Rattle.record.specs.Record.{Ends, recordBytes}
 use Rattle.trace.specs.Inner.{sampleOf, Seen, counted, Numbers}
 use Rattle.trace.specs.Records.{noEnds, endsOf, cutBytes, isKept, isRefused}
 use Rattle.trace.specs.declared.edge.Sample.{Sample}
@@ -102,13 +99,6 @@ runs a b w f left down n en l d first e m em r er =
 -- ---- what an answer writes
 number : (x y : Float) → le x y ≡ true → T (not (isNan y))
 number x y h = subst (λ (t : Bool). T (not t)) (sym (le-num x y h .1)) tt
-
--- the words of a number and zeros
-pub no-words : (xs ys : List ℕ) (to n : ℕ) → n < 256 → ys ≡ placed xs to (fiveWords n 0 0 0 0) → ys ≡ placed xs to (recordBytes n 0 noEnds)
-unfolding toBits ofBits
-no-words xs ys to n h e =
-    let z : 0 * 0x1_0000_0000 + n ≡ n = omega arith in
-    record-words xs ys to n 0 noEnds n 0 0 0 0 e (subst (λ (m : ℕ). bytesOf 8 m ≡ headBytes n 0) z (head-is n 0 h)) refl refl refl refl
 
 -- a kept point lies in the window, so it is no NaN
 pub kept-numbers : (a b : Point) (w : Rect) (s : Segment) → clipped a b w ≡ Kept s → Numbers s

@@ -14,7 +14,7 @@ use borrow.Author.Tests.{ltb-true, ltb-false}
 use Rattle.plane.specs.Point.{origin}
 use Rattle.plane.specs.declared.point.Point.{Point}
 use Rattle.plane.specs.declared.rect.Rect.{Rect}
-use Rattle.record.specs.Record.{headBytes, recordBytes}
+use Rattle.record.specs.Record.{headBytes, recordOf, recordBytes}
 use Rattle.record.proofs.Words.{length-record}
 use Rattle.clip.specs.Refuse.{pointFine}
 use Rattle.clip.specs.Answers.{clipped, numberOf, pointsOf}
@@ -117,7 +117,7 @@ edge-dead false w a b =
     (λ e. r (p e), λ e. q (s e))
 
 first-byte : (c : Clipped) → getD (cutBytes c) 0 0 ≡ numberOf c
-unfolding recordBytes headBytes
+unfolding recordOf recordBytes headBytes
 first-byte c = refl
 
 pub dead : (touches : Bool) (w : Rect) (ps : List Point) (k : ℕ) → k + 1 < length ps

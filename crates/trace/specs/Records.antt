@@ -4,8 +4,7 @@ use mathlib.Core.Bool.{Bool, true, false}
 use mathlib.Core.List.{List, [], _∷_, _++_}
 use Rattle.float.specs.Choice.{when_then_else_}
 use Rattle.float.specs.Float.{zeroF}
-use Rattle.record.specs.Record.{recordBytes}
-use Rattle.record.specs.declared.Ends.{Ends}
+use Rattle.record.specs.Record.{Ends, recordBytes}
 use Rattle.clip.specs.Answers.{numberOf, pointsOf}
 use Rattle.clip.specs.declared.Segment.{Segment}
 use Rattle.clip.specs.declared.Clipped.{Clipped}

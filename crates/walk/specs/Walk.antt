@@ -9,8 +9,7 @@ use Rattle.cube.specs.Faces.{uv, pointAt, uvwOf}
 use Rattle.cube.specs.declared.vector.Vector.{Vector}
 use Rattle.cube.specs.declared.compute.Uv.{Uv}
 use Rattle.line.specs.Line.{meetsFace, leftAt, onward}
-use Rattle.record.specs.Record.{recordBytes}
-use Rattle.record.specs.declared.Ends.{Ends}
+use Rattle.record.specs.Record.{Ends, recordBytes}
 
 -- ---- a step: the exit point is `leftAt p f`, the next face `onward p f t`
 

@@ -102,10 +102,11 @@ fn put_segment(out: &mut [u8], to: usize, face: u8, a: Uv, b: Uv)
     requires { ⌜ Numbers a × Numbers b ⌝ }
     ensures { λ _. ⌜ now (out .exit) ≡ placed (now (out .entry)) to (recordBytes face 0 (endsOf a b)) ⌝ }
 {
-    record::put_words(
+    record::put_record(
         out,
         to,
-        face as u64,
+        face,
+        0,
         f64::to_bits(a.u),
         f64::to_bits(a.v),
         f64::to_bits(b.u),

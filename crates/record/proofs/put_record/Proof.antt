@@ -1,49 +1,80 @@
--- `put_record` is the record's bytes, placed: they are its five words.
-use Rattle.record.proofs.Words.{record-words}
+-- `put_record` is the record's five words, placed one after the other.
+use native.Mathlib.Omega.{arith}
+use Rattle.record.proofs.Words.{words-not, words-are}
 use borrow.Author.Needs.{needs}
 use Rattle.record.proofs.put_record.Statement.{statement}
 use Rattle.record.proofs.put_record.Tie as tie
 
+returns : tie.Need-returns
+returns c = let a = c .before .before .args in words-not (a .out .now) (a .at) _ _ _ _ _ _ (omega arith)
+
+sub-if2 : tie.Need-sub-if2
+sub-if2 c = search needs
+
+returns-2 : tie.Need-returns-2
+returns-2 c = let a = c .before .before .before .args in words-not (a .out .now) (a .at) _ _ _ _ _ _ (omega arith)
+
 head-requires : tie.Need-head-requires
 head-requires c κs = search needs
 
-to-bits-requires : tie.Need-to-bits-requires
-to-bits-requires c κs = search needs
+put-word-requires : tie.Need-put-word-requires
+put-word-requires c κs = search needs
 
-to-bits-requires-2 : tie.Need-to-bits-requires-2
-to-bits-requires-2 c κs = search needs
+add-put-word : tie.Need-add-put-word
+add-put-word c = search needs
 
-to-bits-requires-3 : tie.Need-to-bits-requires-3
-to-bits-requires-3 c κs = search needs
+put-word-requires-2 : tie.Need-put-word-requires-2
+put-word-requires-2 c κs = search needs
 
-to-bits-requires-4 : tie.Need-to-bits-requires-4
-to-bits-requires-4 c κs = search needs
+add-put-word-2 : tie.Need-add-put-word-2
+add-put-word-2 c = search needs
 
-put-words-requires : tie.Need-put-words-requires
-put-words-requires c κs = search needs
+put-word-requires-3 : tie.Need-put-word-requires-3
+put-word-requires-3 c κs = search needs
+
+add-put-word-3 : tie.Need-add-put-word-3
+add-put-word-3 c = search needs
+
+put-word-requires-4 : tie.Need-put-word-requires-4
+put-word-requires-4 c κs = search needs
+
+add-put-word-4 : tie.Need-add-put-word-4
+add-put-word-4 c = search needs
+
+put-word-requires-5 : tie.Need-put-word-requires-5
+put-word-requires-5 c κs = search needs
 
 same-length : tie.Need-same-length
 same-length c = search needs
 
-returns : tie.Need-returns
-returns c =
-    let b4 = c .before .before .before in
-    let b3 = b4 .before in
-    let b2 = b3 .before in
-    let b1 = b2 .before in
-    let h = b1 .before in
-    record-words _ _ _ _ _ _ _ _ _ _ _ (c .before .before .put-words .ensures)
-    (h .head .ensures) (b1 .to-bits .ensures) (b2 .to-bits2 .ensures) (b3 .to-bits3 .ensures) (b4 .to-bits4 .ensures)
+returns-3 : tie.Need-returns-3
+returns-3 c =
+    let k5 = c .before .before in
+    let k4 = k5 .before .before .before .before in
+    let k3 = k4 .before .before .before .before in
+    let k2 = k3 .before .before .before .before in
+    let k1 = k2 .before .before .before .before in
+    let h = k1 .before in
+    let a = h .before .before .before .before .before .args in
+    words-are (a .out .now) (a .at) _ _ _ _ _ _ _ _ _ _ _ _ (h .head .ensures) (omega arith)
+    (k1 .put-word .ensures) (k2 .put-word2 .ensures) (k3 .put-word3 .ensures) (k4 .put-word4 .ensures) (k5 .put-word5 .ensures)
 
 pub put-record-spec : {M : Type 1} → statement M
 put-record-spec =
     tie.close
     (tie.spec
+    returns
+    sub-if2
+    returns-2
     head-requires
-    to-bits-requires
-    to-bits-requires-2
-    to-bits-requires-3
-    to-bits-requires-4
-    put-words-requires
+    put-word-requires
+    add-put-word
+    put-word-requires-2
+    add-put-word-2
+    put-word-requires-3
+    add-put-word-3
+    put-word-requires-4
+    add-put-word-4
+    put-word-requires-5
     same-length
-    returns)
+    returns-3)
