@@ -101,7 +101,7 @@ impl From<CVector> for Vector {
     }
 }
 
-// ---- refusals, written the way that costs the crate least: no branch between tests, and this test for finite
+// ---- refusals, written the way that costs the crate least: no branch between tests, and these tests
 
 const REFUSING: bool = !cfg!(feature = "bare");
 
@@ -109,15 +109,31 @@ fn finite(x: f64) -> bool {
     x - x == 0.0
 }
 
+/// 2^500: no float beyond it is cut.
+const LIMIT: f64 = f64::from_bits(0x5f30_0000_0000_0000);
+
+fn admitted(x: f64) -> bool {
+    x.abs() <= LIMIT
+}
+
+/// The limit's square, 2^1000: `x * x <= SQUARE` exactly where x is admitted. A rounded sum of squares is no less than
+/// any of them, so that one such comparison admits many floats. It is the first test of an edge and of samples; where
+/// it fails each float has its own, by magnitude: two kinds of test cost less than one that is made twice.
+const SQUARE: f64 = f64::from_bits(0x7e70_0000_0000_0000);
+
 impl CPoint {
     fn finite(self) -> bool {
         finite(self.x) & finite(self.y)
+    }
+
+    fn admitted(self) -> bool {
+        admitted(self.x) & admitted(self.y)
     }
 }
 
 impl CInterval {
     fn fine(self) -> bool {
-        finite(self.lo) & finite(self.hi) & (self.lo <= self.hi)
+        (-LIMIT <= self.lo) & (self.lo <= self.hi) & (self.hi <= LIMIT)
     }
 }
 

@@ -141,11 +141,12 @@ static umb_point across(size_t i, size_t count) {
     return beyond(i % 2 * 2 + i / 8 % 2, past, between(0.0, 1.0));
 }
 
-/* A coordinate is NaN or an infinity. */
+/* A coordinate is NaN, an infinity or the float above 2^500. */
 static umb_point dead(size_t i, size_t count) {
+    static const double refused[] = {__builtin_nan(""), __builtin_inf(), -__builtin_inf(), 0x1.0000000000001p500};
     umb_point p = sample(i, count);
     uint64_t kind = next_number() >> 61;
-    double x = kind & 4 ? __builtin_nan("") : kind & 2 ? __builtin_inf() : -__builtin_inf();
+    double x = refused[kind >> 1];
     return kind & 1 ? (umb_point){x, p.y} : (umb_point){p.x, x};
 }
 

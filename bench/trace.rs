@@ -3,7 +3,7 @@
 use crate::number::{Number, BAD_TRACE, BAD_WINDOW, BUFFER_TOO_SHORT, DONE, MISSED, NOT_FINITE};
 use crate::r2::{point::Point, rect::Rect};
 use crate::s2::edge_clipping;
-use crate::{record, CPoint, CRect, RECORD};
+use crate::{record, CPoint, CRect, RECORD, SQUARE};
 use std::slice::{from_raw_parts, from_raw_parts_mut};
 
 const MOST_SAMPLES: usize = 4096;
@@ -45,25 +45,50 @@ pub unsafe extern "C" fn crate_cut_trace(
     cut_edges(from_raw_parts(samples, samples_count), window.into(), from_raw_parts_mut(out, edges))
 }
 
+/// Runs of live samples are found ahead, so that no edge of one is tested.
 fn cut_edges(samples: &[CPoint], window: Rect, out: &mut [[u8; RECORD]]) -> CTraceAnswer {
-    let (edges, mut kept, mut refused) = (out.len(), 0, 0);
-    for (ends, place) in samples.windows(2).zip(out) {
-        if !finite(ends[0], ends[1]) {
-            *place = no_points(NOT_FINITE);
+    let (edges, mut kept, mut refused, mut at) = (out.len(), 0, 0, 0);
+    while at < edges {
+        // What is in its bounds is known to the compiler by this.
+        let samples = &samples[..=edges];
+        if !(samples[at].admitted() & samples[at + 1].admitted()) {
+            out[at] = no_points(NOT_FINITE);
             refused += 1;
-        } else if let (a, b, true) = edge_clipping::clip_edge(ends[0].into(), ends[1].into(), window.clone()) {
-            *place = record(DONE, a, b);
-            kept += 1;
-        } else {
-            *place = no_points(MISSED);
+            at += 1;
+            continue;
         }
+        let end = live_until(samples, at + 2);
+        for (ends, place) in samples[at..end].windows(2).zip(&mut out[at..]) {
+            if let (a, b, true) = edge_clipping::clip_edge(ends[0].into(), ends[1].into(), window.clone()) {
+                *place = record(DONE, a, b);
+                kept += 1;
+            } else {
+                *place = no_points(MISSED);
+            }
+        }
+        at = end - 1;
     }
     CTraceAnswer { number: DONE, kept, missed: edges - kept - refused, refused, edges }
 }
 
-/// The product is a zero, or NaN where a coordinate is not finite. Here this costs less than a test of each.
-fn finite(a: CPoint, b: CPoint) -> bool {
-    !(0.0 * a.x * a.y * b.x * b.y).is_nan()
+/// The first sample from this one on that is dead, or the end: eight at a time, then one by one.
+fn live_until(samples: &[CPoint], from: usize) -> usize {
+    let mut at = from;
+    for eight in samples[from..].as_chunks::<8>().0 {
+        let (mut x, mut y) = (0.0, 0.0);
+        for sample in eight {
+            x += sample.x * sample.x;
+            y += sample.y * sample.y;
+        }
+        if !((x <= SQUARE) & (y <= SQUARE)) {
+            break;
+        }
+        at += eight.len();
+    }
+    while at < samples.len() && samples[at].admitted() {
+        at += 1;
+    }
+    at
 }
 
 fn no_points(number: Number) -> [u8; RECORD] {

@@ -27,8 +27,8 @@ extern "C" {
 enum {
     UMB_DONE = 0,         /* kept, or done */
     UMB_MISSED = 1,       /* no part in the window; a vector not on the side of the asked face */
-    UMB_NOT_FINITE = 2,   /* a float other than the window's is NaN or an infinity */
-    UMB_BAD_WINDOW = 3,   /* a window side is not finite, or lo > hi on an axis */
+    UMB_NOT_FINITE = 2,   /* a float other than the window's is not finite or, in cutting, beyond 2^500 */
+    UMB_BAD_WINDOW = 3,   /* a window side is not finite or beyond 2^500, or lo > hi on an axis */
     UMB_BAD_FACE = 4,     /* a face above 5, an axis above 2, a direction above 1 */
     UMB_ZERO = 5,         /* a vector or normal all zero, or a division by zero */
     UMB_OFF_FACE = 6,     /* the line does not meet a face that is not the target */
@@ -192,14 +192,15 @@ umb_rect_answer umb_rect_union(umb_rect r, umb_rect q);
 /* umb_rect_empty() where either axis comes out empty. */
 umb_rect_answer umb_rect_intersection(umb_rect r, umb_rect q);
 
-/* ---- cutting an edge to a window */
+/* ---- cutting an edge to a window. Of all floats here, and of a trace's, those up to 2^500 in magnitude are admitted:
+ * one beyond it is refused as one that is not finite is, with 2, or with 3 as a side of the window. */
 
 /* The part of the edge from a to b that lies in the window. Of these numbers: 2, 3, then 1 where nothing is left, or 0.
  * Kept points lie in the window and in the edge's own box; an edge inside the window comes back as it was (where a and
  * b compare equal on an axis, both with a's coordinate); a dead sample is never joined to anything. */
 umb_cut umb_clip_edge(umb_point a, umb_point b, umb_rect window);
 /* Whether the edge meets the window. Of these numbers: 2, 3, 0. It is the crate's test, which rounds: it need not agree
- * with umb_clip_edge, least of all where its products overflow or underflow. */
+ * with umb_clip_edge, least of all where the ends are far out or its products underflow. */
 umb_yes_no umb_edge_intersects_rect(umb_point a, umb_point b, umb_rect window);
 /* What is left in the window of the bound of some part of the edge. Of these numbers: 2, 3, 1, 0. */
 umb_rect_answer umb_clip_edge_bound(umb_point a, umb_point b, umb_rect window, umb_rect bound);
@@ -209,7 +210,7 @@ umb_axes umb_clip_bound_axis(double a0, double b0, umb_interval bound0, double a
                              bool neg_slope, umb_interval window);
 /* The bound with its high end, or its low, moved to the value; never wider. 2, 1 where nothing is left, or 0. */
 umb_interval_answer umb_update_endpoint(umb_interval bound, bool high_endpoint, double value);
-/* The value at x on the line through (a, a1) and (b, b1). 2 or 0. */
+/* The value at x on the line through (a, a1) and (b, b1): no NaN, but beyond a and b it may be infinite. 2 or 0. */
 umb_real umb_interpolate(double x, double a, double b, double a1, double b1);
 
 /* ---- a whole trace in one call */

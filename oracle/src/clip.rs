@@ -1,15 +1,23 @@
-//! Document 01's module 4, cutting to a window: its refusals in order, then the crate.
+//! Document 01's module 4, cutting to a window, over W5's smaller domain: its refusals in order, then the crate.
 
-use crate::finite::{admit_finite, Finite};
+use crate::finite::{admit_floats, Floats};
+use crate::floats::power;
 use crate::number::{Answer, BAD_WINDOW, MISSED};
 use crate::r1::interval::Interval;
 use crate::r2::{point::Point, rect::Rect};
 use crate::s2::edge_clipping::{self, private};
 
+/// Change request W5: no float beyond this magnitude is admitted, whatever it is for.
+pub const LIMIT: f64 = power(500);
+
+pub fn admitted(x: f64) -> bool {
+    x.abs() <= LIMIT
+}
+
 /// A float that is not the window's is refused before the window is looked at.
-fn admit(floats: &[&dyn Finite], window: &[Interval]) -> Answer<()> {
-    admit_finite(floats)?;
-    if window.iter().all(|sides| sides.finite() && sides.lo <= sides.hi) {
+fn admit(floats: &[&dyn Floats], window: &[Interval]) -> Answer<()> {
+    admit_floats(floats, admitted)?;
+    if window.iter().all(|sides| sides.all(admitted) && sides.lo <= sides.hi) {
         Ok(())
     } else {
         Err(BAD_WINDOW)

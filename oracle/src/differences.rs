@@ -2,6 +2,7 @@
 //! those of the requests that keep the entry, so that the page, the stored list and these tests have the same bits.
 
 mod cube;
+mod overflow;
 
 use crate::kept::{KEPT, LEFT_OUT};
 use crate::r1::interval::Interval;
@@ -103,10 +104,11 @@ fn d6_interpolate_at_an_end() {
 
 #[test]
 fn d7_interpolate_past_an_end() {
-    let [mut overflow, mut underflow, mut falling] = asked("D7", [30, 30, 30]);
+    let [mut overflow, mut underflow, mut falling, mut beyond] = asked("D7", [30, 30, 30, 30]);
     assert_eq!(interpolate(&mut overflow), f64::INFINITY);
     assert_eq!(interpolate(&mut underflow).to_bits(), 0x1e59_0000_0000_0000);
     assert_eq!(interpolate(&mut falling), 0.5);
+    assert_eq!(interpolate(&mut beyond), f64::INFINITY);
 }
 
 #[test]
@@ -127,13 +129,17 @@ fn d9_a_missed_bound_is_not_the_original_one() {
 
 #[test]
 fn d10_edge_intersects_rect_beyond_its_bound() {
-    let [mut far_points, mut through_it, mut past_it, mut tiny] = asked("D10", [35, 35, 35, 35]);
+    let [mut far_points, mut through_it, mut past_it, mut tiny, mut through_its_middle, mut far_past_it] =
+        asked("D10", [35; 6]);
     assert!(meets(&mut far_points));
     // The window's point is A x B / |AB| = 2^-44 / |AB| from the line, and |AB| is less than 45.26.
     assert!(2f64.powi(-44) / 45.26 > 1.3 * private::INTERSECT_RECT_ERROR_UV_DIST);
     assert!(!meets(&mut through_it), "by a NaN");
     assert!(meets(&mut past_it), "by an overflow");
     assert!(meets(&mut tiny), "by an underflow");
+    // B is -2 A, so that (0,0) is between them.
+    assert!(!meets(&mut through_its_middle), "by rounding");
+    assert!(meets(&mut far_past_it), "by rounding");
 }
 
 #[test]
@@ -163,8 +169,9 @@ fn d18_the_zeros_of_union_and_intersection() {
 
 #[test]
 fn d19_a_cut_value_by_overflow() {
-    let [mut a] = asked("D19", [34]);
-    assert_eq!(cut(&mut a), Some([0.0, 0.0, 1.0, 0.0]));
+    let [mut beyond, mut at_the_limit] = asked("D19", [34, 34]);
+    assert_eq!(cut(&mut beyond), Some([0.0, 0.0, 1.0, 0.0]));
+    assert_eq!(cut(&mut at_the_limit), Some([0.0, 0.5, 1.0, 0.5]));
 }
 
 #[test]
@@ -211,4 +218,13 @@ fn d30_windows_that_are_empty_or_open() {
     let [mut empty, mut open] = asked("D30", [34, 34]);
     assert_eq!(cut(&mut empty), None);
     assert_eq!(cut(&mut open), Some([1.0, 0.5, 4.0, 2.0]));
+}
+
+/// The crate answers beyond the limit as at it.
+#[test]
+fn d32_floats_beyond_the_limit() {
+    let [mut at, mut above, mut side_at, mut side_above] = asked("D32", [34; 4]);
+    for a in [&mut at, &mut above, &mut side_at, &mut side_above] {
+        assert_eq!(cut(a), Some([0.0, 0.0, 1.0, 0.0]));
+    }
 }

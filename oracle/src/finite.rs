@@ -1,49 +1,55 @@
-//! The refusal that every module shares.
+//! The refusal that every module shares. Which floats are admitted is the module's own: every finite one, but in module
+//! 4 fewer (see `clip.rs`).
 
 use crate::number::{Answer, NOT_FINITE};
 use crate::r1::interval::Interval;
 use crate::r2::{point::Point, rect::Rect};
 use crate::r3::vector::Vector;
 
-pub trait Finite {
-    fn finite(&self) -> bool;
+/// A value made of floats.
+pub trait Floats {
+    fn all(&self, admitted: fn(f64) -> bool) -> bool;
 }
 
 /// Refuses where a float among the values is a NaN or an infinity.
-pub fn admit_finite(values: &[&dyn Finite]) -> Answer<()> {
-    if values.iter().all(|value| value.finite()) {
+pub fn admit_finite(values: &[&dyn Floats]) -> Answer<()> {
+    admit_floats(values, f64::is_finite)
+}
+
+pub fn admit_floats(values: &[&dyn Floats], admitted: fn(f64) -> bool) -> Answer<()> {
+    if values.iter().all(|value| value.all(admitted)) {
         Ok(())
     } else {
         Err(NOT_FINITE)
     }
 }
 
-impl Finite for f64 {
-    fn finite(&self) -> bool {
-        self.is_finite()
+impl Floats for f64 {
+    fn all(&self, admitted: fn(f64) -> bool) -> bool {
+        admitted(*self)
     }
 }
 
-impl Finite for Point {
-    fn finite(&self) -> bool {
-        self.x.is_finite() && self.y.is_finite()
+impl Floats for Point {
+    fn all(&self, admitted: fn(f64) -> bool) -> bool {
+        admitted(self.x) && admitted(self.y)
     }
 }
 
-impl Finite for Interval {
-    fn finite(&self) -> bool {
-        self.lo.is_finite() && self.hi.is_finite()
+impl Floats for Interval {
+    fn all(&self, admitted: fn(f64) -> bool) -> bool {
+        admitted(self.lo) && admitted(self.hi)
     }
 }
 
-impl Finite for Rect {
-    fn finite(&self) -> bool {
-        self.x.finite() && self.y.finite()
+impl Floats for Rect {
+    fn all(&self, admitted: fn(f64) -> bool) -> bool {
+        self.x.all(admitted) && self.y.all(admitted)
     }
 }
 
-impl Finite for Vector {
-    fn finite(&self) -> bool {
-        self.x.is_finite() && self.y.is_finite() && self.z.is_finite()
+impl Floats for Vector {
+    fn all(&self, admitted: fn(f64) -> bool) -> bool {
+        admitted(self.x) && admitted(self.y) && admitted(self.z)
     }
 }

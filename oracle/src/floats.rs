@@ -1,5 +1,6 @@
 //! Floats worth asking about, by family. Numbers that are to meet each other come from the same family.
 
+use crate::clip::{admitted, LIMIT};
 use crate::random::Random;
 
 #[derive(Clone, Copy)]
@@ -26,6 +27,11 @@ pub enum Family {
     Steps,
     /// The bits of any finite float.
     Bits,
+    /// From 2^497 up to the limit of module 4, 2^500, itself and the float below it the most often: there differences
+    /// and products are the greatest.
+    Limit,
+    /// The bits of any float that module 4 admits.
+    AdmittedBits,
 }
 
 use Family::*;
@@ -33,8 +39,17 @@ use Family::*;
 impl Family {
     /// The ordinary families come more often than the ends of the range.
     pub fn any(random: &mut Random) -> Family {
+        Family::ordinary_or(random, &[Huge, Large, Small, Least, Steps, Bits])
+    }
+
+    /// The same for module 4: no float is beyond its limit.
+    pub fn admitted(random: &mut Random) -> Family {
+        Family::ordinary_or(random, &[Limit, Limit, Small, Least, Steps, AdmittedBits])
+    }
+
+    fn ordinary_or(random: &mut Random, ends: &[Family]) -> Family {
         if random.once_in(3) {
-            random.pick(&[Huge, Large, Small, Least, Steps, Bits])
+            random.pick(ends)
         } else {
             random.pick(&[Unit, Unit, Thousand, Whole, Whole, Tenths, Powers])
         }
@@ -52,17 +67,16 @@ impl Family {
             Small => near_power(random, -545, -530),
             Least => near_power(random, -1025, -1019),
             Steps => f64::from_bits(random.below(17)),
-            Bits => any_finite(random),
+            Bits => any_of(random, f64::is_finite),
+            Limit if random.coin() => random.pick(&WITHIN),
+            Limit => near_power(random, 497, 499),
+            AdmittedBits => any_of(random, admitted),
         };
-        if random.coin() {
-            magnitude
-        } else {
-            -magnitude
-        }
+        of_either_sign(random, magnitude)
     }
 }
 
-/// Where the floats of a record or a trace come from: one family, but in one of eight each has its own.
+/// Where the floats of an edge or a trace come from: one family, but in one of eight each has its own.
 #[derive(Clone, Copy)]
 pub struct Source {
     shared: Family,
@@ -71,11 +85,16 @@ pub struct Source {
 
 impl Source {
     pub fn any(random: &mut Random) -> Source {
-        Source { shared: Family::any(random), mixed: random.once_in(8) }
+        Source { shared: Family::admitted(random), mixed: random.once_in(8) }
+    }
+
+    #[cfg(test)]
+    pub fn of(family: Family) -> Source {
+        Source { shared: family, mixed: false }
     }
 
     pub fn draw(self, random: &mut Random) -> f64 {
-        let family = if self.mixed { Family::any(random) } else { self.shared };
+        let family = if self.mixed { Family::admitted(random) } else { self.shared };
         family.draw(random)
     }
 }
@@ -110,12 +129,44 @@ pub fn neighbour(random: &mut Random, value: f64) -> f64 {
     }
 }
 
-pub fn any_finite(random: &mut Random) -> f64 {
+pub fn any_of(random: &mut Random, wanted: fn(f64) -> bool) -> f64 {
     loop {
         let value = f64::from_bits(random.word());
-        if value.is_finite() {
+        if wanted(value) {
             return value;
         }
+    }
+}
+
+/// The greatest floats that module 4 admits.
+const WITHIN: [f64; 2] = [LIMIT, LIMIT.next_down()];
+
+pub fn at_limit(random: &mut Random) -> f64 {
+    let magnitude = random.pick(&WITHIN);
+    of_either_sign(random, magnitude)
+}
+
+/// Finite, and refused by module 4: the float next to its limit, the greatest, or any from twice the limit up.
+pub fn beyond_limit(random: &mut Random) -> f64 {
+    let far = random.between(power(501).to_bits() as i64, f64::MAX.to_bits() as i64);
+    let magnitude = random.pick(&[LIMIT.next_up(), LIMIT.next_up(), f64::from_bits(far as u64), f64::MAX]);
+    of_either_sign(random, magnitude)
+}
+
+/// What module 4 refuses, finite or not.
+pub fn refused(random: &mut Random) -> f64 {
+    if random.coin() {
+        not_finite(random)
+    } else {
+        beyond_limit(random)
+    }
+}
+
+fn of_either_sign(random: &mut Random, magnitude: f64) -> f64 {
+    if random.coin() {
+        magnitude
+    } else {
+        -magnitude
     }
 }
 

@@ -1,14 +1,16 @@
 //! `oracle grid`: every request over short lists of words, operation by operation.
 
 use crate::answers::request;
+use crate::clip::LIMIT;
 use crate::stream::write_words;
 use std::io::{self, BufWriter, Write};
 
 /// Operations and, for each word of their arguments, the list that it runs through: F, A, D 0 to 7; b 0 to 2; L a few
 /// lengths; x floats of all sorts, not finite ones among them; t small floats of both signs; g 0 to 3; h 0 to 2; e the
-/// ends 0 and 2; c -1 to 1; m the middle of a face. For a trace: C counts of floats, S six of them; R lengths about
-/// whole records, T about two, E exactly two; d floats of live and dead samples; a digit that float.
-const GRID: [(u64, &str); 51] = [
+/// ends 0 and 2; c -1 to 1; m the middle of a face; l floats up to module 4's limit and beyond it, w that limit and the
+/// float above it, W their opposites. For a trace: C counts of floats, S six of them; R lengths about whole records, T
+/// about two, E exactly two; d floats of live and dead samples; a digit that float.
+const GRID: [(u64, &str); 58] = [
     (1, "xxxx"),
     (2, "xxxx"),
     (3, "xxx"),
@@ -35,11 +37,17 @@ const GRID: [(u64, &str); 51] = [
     (28, "hhhhhhhh"),
     (29, "hhhhhhhh"),
     (30, "ttttt"),
+    (30, "lllll"),
     (31, "xxbx"),
+    (31, "llbl"),
     (32, "hheehheebhh"),
+    (32, "wwwwwwwwbWw"),
     (33, "hhhhhhhheeee"),
+    (33, "wwwwWWwwwwww"),
     (34, "gggggggg"),
+    (34, "llllWWww"),
     (35, "gggggggg"),
+    (35, "llllWWww"),
     (40, "xxx"),
     (41, "xxx"),
     (42, "Fxxx"),
@@ -60,6 +68,7 @@ const GRID: [(u64, &str); 51] = [
     (61, "CRhhhh0031132202133120"),
     (61, "ST0022dddddd"),
     (61, "SEhhhhhhhhhh"),
+    (61, "SEWWwwwwwwww"),
 ];
 
 /// Operations up to this one are also asked with all arguments zero, listed or not.
@@ -103,12 +112,15 @@ fn list(letter: char) -> Vec<u64> {
         'e' => floats(&[0.0, 2.0]),
         'c' => floats(&[-1.0, 0.0, 1.0]),
         'm' => floats(&[0.0]),
+        'l' => floats(&[0.0, 1.0, LIMIT, -LIMIT, LIMIT.next_up(), -f64::MAX]),
+        'w' => floats(&[LIMIT, LIMIT.next_up()]),
+        'W' => floats(&[-LIMIT, -LIMIT.next_up()]),
         'C' => vec![0, 1, 2, 3, 4, 5, 6, 15, 16, 17],
         'S' => vec![6],
         'R' => vec![0, 39, 40, 41, 79, 80, 81, 279, 280, 281, 400, 401],
         'T' => vec![79, 80, 81],
         'E' => vec![80],
-        'd' => floats(&[1.0, 3.0, f64::NAN, f64::NEG_INFINITY]),
+        'd' => floats(&[1.0, 3.0, f64::NAN, f64::NEG_INFINITY, LIMIT.next_up()]),
         '0'..='9' => floats(&[f64::from(letter as u8 - b'0')]),
         _ => unreachable!("no list is called {letter}"),
     }

@@ -3,6 +3,7 @@
 //! go by the names of the entries: a new entry moves none.
 
 use crate::answers::request;
+use crate::clip::LIMIT;
 use crate::floats::power;
 use crate::stream::write_words;
 use std::io;
@@ -17,6 +18,8 @@ const HUGE: f64 = power(1023);
 /// The least float above 0.
 const STEP: f64 = power(-1074);
 const SMALL: f64 = power(-540);
+/// Far out, but admitted: whole numbers there are four apart, up to twice of it.
+const FAR: f64 = power(54);
 
 /// Words in the order of the answering program's format: a rectangle is its low corner, then its high one.
 #[rustfmt::skip]
@@ -78,6 +81,14 @@ pub const KEPT: &[Kept] = &[
     ("D30", 34, &floats([0.0, 0.0, 4.0, 2.0, 3.0, 0.0, 1.0, 2.0])),
     ("D30", 34, &floats([0.0, 0.0, 4.0, 2.0, 1.0, 0.0, INF, 2.0])),
     ("D31", 55, &[0, float(0.1), float(1.0), 0, float(10.0), float(-1.0), 0, 2]),
+    ("D7", 30, &floats([1.0, 0.0, STEP, 0.0, 1.0])),
+    ("D10", 35, &floats([-FAR - 4.0, -FAR - 12.0, 2.0 * FAR + 8.0, 2.0 * FAR + 24.0, -1.0, -1.0, 1.0, 1.0])),
+    ("D10", 35, &floats([-FAR, -FAR, FAR, FAR + 4.0, 0.0, 0.0, 0.0, 0.0])),
+    ("D32", 34, &floats([0.0, 0.0, LIMIT, 0.0, 0.0, 0.0, 1.0, 1.0])),
+    ("D32", 34, &floats([0.0, 0.0, LIMIT.next_up(), 0.0, 0.0, 0.0, 1.0, 1.0])),
+    ("D32", 34, &floats([0.0, 0.0, 1.0, 0.0, 0.0, 0.0, LIMIT, 1.0])),
+    ("D32", 34, &floats([0.0, 0.0, 1.0, 0.0, 0.0, 0.0, LIMIT.next_up(), 1.0])),
+    ("D19", 34, &floats([-LIMIT, 0.0, LIMIT, 1.0, 0.0, 0.0, 1.0, 1.0])),
 ];
 
 /// Entries about what the port leaves out, so that no operation can keep them, and the words of their inputs.

@@ -17,6 +17,8 @@ mod grid;
 mod instances;
 mod kept;
 mod likeness;
+#[cfg(test)]
+mod limit;
 mod line;
 mod number;
 mod operations;

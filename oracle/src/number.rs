@@ -5,7 +5,9 @@ pub type Number = u8;
 pub const DONE: Number = 0;
 /// No point of the window is met; the vector is not on the side of the asked face.
 pub const MISSED: Number = 1;
+/// A float that is not finite or, in module 4 and in a trace, beyond 2^500 in magnitude; not a window's.
 pub const NOT_FINITE: Number = 2;
+/// A window with such a float for a side, or lo > hi.
 pub const BAD_WINDOW: Number = 3;
 /// No such face, axis or direction.
 pub const NO_SUCH_FACE: Number = 4;

@@ -58,6 +58,11 @@ pub const OPERATIONS: [(u64, &str, &str); 49] = [
 /// The operations whose answers are hardest to get right: they are asked more often.
 pub const HARD: [u64; 7] = [34, 50, 51, 52, 60, 60, 61];
 
+/// Module 4 and the trace, which admit no float beyond the limit.
+pub fn is_limited(operation: u64) -> bool {
+    matches!(operation, 30..=35 | 61)
+}
+
 /// The kinds of an operation's arguments and of its results; none where it is not listed.
 pub fn kinds(operation: u64) -> (&'static str, &'static str) {
     let listed = OPERATIONS.iter().find(|(listed, _, _)| *listed == operation);

@@ -1,16 +1,19 @@
 //! `oracle records`: seeded records for the program that cuts.
 //!
-//! `bits` is eight words of random bits: floats of all sizes, half of the axes of windows empty, few edges kept.
+//! `bits` is eight words of random bits, in half of the records none that module 4 refuses: floats of all sizes, half
+//! of the axes of windows empty, few edges kept.
 //!
 //! `edges` is ordinary edges. The eight numbers come from one family of floats (see `floats.rs`; in one record of eight
 //! each number has a family of its own) and the window's sides are put in order. Then up to three of these are done,
 //! each as likely: both points level, both upright, points equal; a coordinate set to a side of the window on its axis,
 //! or to a float next to it; lo = hi on an axis; a point moved into the window, both points moved into it; the edge
 //! laid through a corner; a coordinate or a side set to a zero of either sign; a coordinate set to a float next to the
-//! other point's. Last, in one record of 24 the sides of an axis are exchanged, in one of 24 one of the eight is not
-//! finite, and in one of 64 two are, so that the order of refusals shows.
+//! other point's. Last, in one record of 24 the sides of an axis are exchanged, in one of 12 one of the eight is at the
+//! limit of module 4, in one of 12 one is refused, not finite or beyond that limit, and in one of 64 two are, so that
+//! the order of refusals shows.
 
-use crate::floats::{neighbour, not_finite, zero, Source};
+use crate::clip::admitted;
+use crate::floats::{any_of, at_limit, neighbour, refused, zero, Source};
 use crate::random::Random;
 use crate::stream::write_words;
 use std::io::{self, BufWriter, Write};
@@ -39,7 +42,8 @@ pub fn run(kind: &str, count: u64, seed: u64) -> io::Result<()> {
 }
 
 fn bits(random: &mut Random) -> Record {
-    std::array::from_fn(|_| f64::from_bits(random.word()))
+    let wanted = if random.coin() { admitted } else { |_| true };
+    std::array::from_fn(|_| any_of(random, wanted))
 }
 
 pub fn edge(random: &mut Random) -> Record {
@@ -123,11 +127,14 @@ fn spoil(random: &mut Random, record: &mut Record) {
         let axis = random.index(2);
         record.swap(LOW + axis, HIGH + axis);
     }
-    if random.once_in(24) {
-        record[random.index(8)] = not_finite(random);
+    if random.once_in(12) {
+        record[random.index(8)] = at_limit(random);
+    }
+    if random.once_in(12) {
+        record[random.index(8)] = refused(random);
     }
     if random.once_in(64) {
-        record[random.index(8)] = not_finite(random);
-        record[random.index(8)] = not_finite(random);
+        record[random.index(8)] = refused(random);
+        record[random.index(8)] = refused(random);
     }
 }

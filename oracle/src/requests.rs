@@ -1,17 +1,18 @@
 //! `oracle requests`: seeded requests for the answering program, every operation among them.
 //!
-//! The floats of a request come from one family (see `floats.rs`; in one request of eight each has its own). Intervals
-//! and rectangles are put in order, but for one axis in eight. Most requests of operations 30 to 35 are shaped after an
-//! edge and a window of `oracle records edges`, normals after what is close to a tie, half of the exits of operation 55
-//! are corners (see `shapes.rs`); operation 61 has traces (see `traces.rs`). In the others up to two floats are bound:
-//! equal to another, next to it, opposite, the sum of two, or a zero of either sign. Last, in one request of 16 a float
-//! is not finite, in one of 64 two are. Faces, axes and directions are too great in one of 16, a buffer has any length,
-//! and in one request of 64 the operation is any word. The words after the arguments are random: they have to be
-//! ignored.
+//! The floats of a request come from one family (see `floats.rs`; in one request of eight each has its own), for
+//! operations 30 to 35 and 61 one that module 4 admits. Intervals and rectangles are put in order, but for one axis in
+//! eight. Most requests of operations 30 to 35 are shaped after an edge and a window of `oracle records edges`, normals
+//! after what is close to a tie, half of the exits of operation 55 are corners (see `shapes.rs`); operation 61 has
+//! traces (see `traces.rs`). In the others up to two floats are bound: equal to another, next to it, opposite, the sum
+//! of two, or a zero of either sign. Last, in one request of 16 a float is not finite, in one of 64 two are; of
+//! operations 30 to 35 and 61 as many are beyond module 4's limit, and in one request of eight a float is at it. Faces,
+//! axes and directions are too great in one of 16, a buffer has any length, and in one request of 64 the operation is
+//! any word. The words after the arguments are random: they have to be ignored.
 
 use crate::answers::REQUEST;
-use crate::floats::{neighbour, not_finite, zero, Family};
-use crate::operations::{kinds, HARD, OPERATIONS};
+use crate::floats::{at_limit, beyond_limit, neighbour, not_finite, zero, Family};
+use crate::operations::{is_limited, kinds, HARD, OPERATIONS};
 use crate::random::Random;
 use crate::shapes;
 use crate::stream::write_words;
@@ -41,13 +42,17 @@ pub fn run(count: u64, seed: u64) -> io::Result<()> {
 
 pub fn request(random: &mut Random) -> [u64; REQUEST] {
     let operation = operation(random);
+    request_of(random, operation)
+}
+
+pub fn request_of(random: &mut Random, operation: u64) -> [u64; REQUEST] {
     let mut arguments = match operation {
         30..=35 if !random.once_in(4) => shapes::around_edge(random, operation),
         55 if random.coin() => shapes::at_corner(random),
         61 => traces::arguments(random),
         _ => plain_arguments(random, operation),
     };
-    spoil(random, &mut floats_of(&mut arguments));
+    spoil(random, operation, &mut floats_of(&mut arguments));
     let mut request = std::array::from_fn(|_| random.word());
     request[0] = operation;
     for (word, argument) in request[1..].iter_mut().zip(arguments) {
@@ -80,11 +85,12 @@ fn operation(random: &mut Random) -> u64 {
 }
 
 fn plain_arguments(random: &mut Random, operation: u64) -> Vec<Word> {
-    let shared = Family::any(random);
+    let any = if is_limited(operation) { Family::admitted } else { Family::any };
+    let shared = any(random);
     let mixed = random.once_in(8);
     let mut arguments = Vec::new();
     for kind in kinds(operation).0.chars() {
-        let family = if mixed { Family::any(random) } else { shared };
+        let family = if mixed { any(random) } else { shared };
         match kind {
             'F' => arguments.push(Word::Plain(limited(random, 5))),
             'A' => arguments.push(Word::Plain(limited(random, 2))),
@@ -167,15 +173,29 @@ fn bind(random: &mut Random, floats: &mut [&mut f64]) {
     }
 }
 
-fn spoil(random: &mut Random, floats: &mut [&mut f64]) {
-    let count = if random.once_in(16) {
+fn spoil(random: &mut Random, operation: u64, floats: &mut [&mut f64]) {
+    if is_limited(operation) {
+        let count = random.once_in(8).into();
+        set(random, floats, count, at_limit);
+        let count = seldom(random);
+        set(random, floats, count, beyond_limit);
+    }
+    let count = seldom(random);
+    set(random, floats, count, not_finite);
+}
+
+fn seldom(random: &mut Random) -> usize {
+    if random.once_in(16) {
         1
     } else if random.once_in(64) {
         2
     } else {
         0
-    };
+    }
+}
+
+fn set(random: &mut Random, floats: &mut [&mut f64], count: usize, draw: fn(&mut Random) -> f64) {
     for _ in 0..count.min(floats.len()) {
-        *floats[random.index(floats.len())] = not_finite(random);
+        *floats[random.index(floats.len())] = draw(random);
     }
 }

@@ -1,8 +1,10 @@
 //! `oracle samples`: a window, and a seeded trace that drifts about it. It goes on by a 32nd of the window's width and
 //! height at the most, and no further from it than half of them; but one sample of 16 is anywhere there, and one of
 //! eight is related to the one before it and to the window as the ends of an edge of `oracle records edges` are. Now
-//! and then the probe is dead, for one sample or some, while the trace drifts on.
+//! and then the probe is dead, for one sample or some, or a coordinate is as great as is admitted for one sample, while
+//! the trace drifts on.
 
+use crate::floats::at_limit;
 use crate::random::Random;
 use crate::records::related;
 use crate::stream::write_words;
@@ -44,6 +46,8 @@ impl Trace {
         if self.dead > 0 {
             self.dead -= 1;
             kill(&mut self.random, &mut sample);
+        } else if self.random.once_in(64) {
+            sample[self.random.index(2)] = at_limit(&mut self.random);
         }
         sample
     }
@@ -72,6 +76,7 @@ fn step(random: &mut Random, at: f64, low: f64, high: f64) -> f64 {
 mod tests {
     use super::*;
     use crate::classes::{must_be_seen, see_edge, Seen, EDGES};
+    use crate::clip::LIMIT;
     use crate::r2::{point::Point, rect::Rect};
     use crate::words::Arguments;
 
@@ -83,9 +88,13 @@ mod tests {
         let mut before = next();
         for _ in 0..20_000 {
             let sample = next();
+            let greatest = sample.x.abs().max(sample.y.abs());
+            *seen.entry("at the limit").or_default() += u64::from(greatest == LIMIT);
+            *seen.entry("beyond the limit").or_default() += u64::from(greatest > LIMIT && greatest.is_finite());
             see_edge(&mut seen, before, sample, &window);
             before = sample;
         }
-        must_be_seen(&seen, &EDGES, 40);
+        let names: Vec<_> = seen.keys().copied().chain(EDGES).collect();
+        must_be_seen(&seen, &names, 40);
     }
 }

@@ -1,4 +1,4 @@
-//! Change request W1, a whole trace in one call: its refusals in order, then the crate's `clip_edge`, edge by edge.
+//! Change request W1, a whole trace in one call: its refusals in order, then module 4's `clip_edge`, edge by edge.
 //! `oracle trace`: the records that the program of that name has to write for a window and samples.
 
 use crate::clip::{admit_window, clip_edge};
@@ -99,6 +99,7 @@ fn write_records(input: &mut impl Read, window: &Rect, output: &mut impl Write) 
 mod tests {
     use super::*;
     use crate::answers::{line_of, request};
+    use crate::clip::LIMIT;
     use crate::stream::hex;
     use crate::zeros::Zeros;
 
@@ -165,6 +166,22 @@ mod tests {
             (8, 4, 0, WINDOW),
         ] {
             assert_eq!(ask(count, length, window, &TRACE), line(number, [0; 4], &untouched(length as usize)));
+        }
+    }
+
+    #[test]
+    fn floats_beyond_the_limit() {
+        let above = LIMIT.next_up();
+        let [whole, dead] = [record_of(0, [0.0, 0.0, 1.0, 0.0]), record_of(2, [0.0; 4])];
+        let ask = |window, far| ask(6, 80, window, &[0.0, 0.0, far, 0.0, 0.0, 0.0]);
+        let back = record_of(0, [1.0, 0.0, 0.0, 0.0]);
+        assert_eq!(ask([0.0, 0.0, 1.0, 1.0], LIMIT), line(0, [2, 0, 0, 2], &(whole + &back)));
+        assert_eq!(ask([0.0, 0.0, 1.0, 1.0], above), line(0, [0, 0, 2, 2], &dead.repeat(2)));
+        assert!(ask([-LIMIT, -LIMIT, LIMIT, LIMIT], 0.0).starts_with("0 "));
+        for side in 0..4 {
+            let mut window = [-LIMIT, -LIMIT, LIMIT, LIMIT];
+            window[side] = above.copysign(window[side]);
+            assert_eq!(ask(window, 0.0), line(3, [0; 4], &untouched(80)), "side {side}");
         }
     }
 

@@ -7,7 +7,7 @@
 //! empty, of the greatest length or beyond it.
 
 use crate::answers::{BUFFER, FLOATS};
-use crate::floats::{not_finite, Source};
+use crate::floats::{refused, Source};
 use crate::random::Random;
 use crate::records::{edge_of, related};
 use crate::requests::{Word, Word::Float, Word::Plain};
@@ -52,9 +52,9 @@ fn kill_some(random: &mut Random, samples: &mut [Sample]) {
     }
 }
 
-/// Either coordinate makes a sample a dead one.
+/// Either coordinate makes a sample a dead one: it is not finite, or beyond the limit of module 4.
 pub fn kill(random: &mut Random, sample: &mut Sample) {
-    sample[random.index(2)] = not_finite(random);
+    sample[random.index(2)] = refused(random);
 }
 
 fn count(random: &mut Random) -> usize {
@@ -93,7 +93,8 @@ fn length(random: &mut Random, records: u64) -> u64 {
 mod tests {
     use super::*;
     use crate::classes::{must_be_seen, see_edge, Seen, EDGES};
-    use crate::finite::Finite;
+    use crate::clip::admitted;
+    use crate::finite::Floats;
     use crate::r2::{point::Point, rect::Rect};
     use crate::words::Arguments;
 
@@ -116,10 +117,11 @@ mod tests {
             (length > BUFFER as u64, "more than 400 bytes"),
             (window.x.lo == window.x.hi || window.y.lo == window.y.hi, "lo = hi"),
             (window.x.lo > window.x.hi || window.y.lo > window.y.hi, "lo > hi"),
-            (!window.finite(), "a side that is not finite"),
-            (!samples[0].finite(), "the first is dead"),
-            (!samples[4].finite(), "one between is dead"),
-            (!samples[7].finite(), "the last is dead"),
+            (!window.all(f64::is_finite), "a side that is not finite"),
+            (window.all(f64::is_finite) && !window.all(admitted), "a side beyond the limit"),
+            (!samples[0].all(admitted), "the first is dead"),
+            (!samples[4].all(admitted), "one between is dead"),
+            (!samples[7].all(admitted), "the last is dead"),
         ] {
             *seen.entry(name).or_default() += u64::from(holds);
         }

@@ -10,9 +10,9 @@ use std::fmt::{Display, Formatter, Result as Written};
 pub enum Refusal {
     /// No part is in the window, or a vector is not on the side of the asked face.
     Missed = 1,
-    /// A float other than the window's is NaN or an infinity.
+    /// A float other than the window's is NaN or an infinity or, in cutting, beyond 2^500 in magnitude.
     NotFinite = 2,
-    /// A side of the window is not finite, or lo > hi on an axis.
+    /// A side of the window is not finite or beyond 2^500 in magnitude, or lo > hi on an axis.
     BadWindow = 3,
     /// A face above 5, an axis above 2, a direction above 1.
     BadFace = 4,
@@ -61,8 +61,8 @@ impl Display for Refusal {
     fn fmt(&self, out: &mut Formatter) -> Written {
         out.write_str(match self {
             Refusal::Missed => "missed: not in the window, or not on the side of the face",
-            Refusal::NotFinite => "a float is not finite",
-            Refusal::BadWindow => "the window has a side that is not finite, or lo > hi",
+            Refusal::NotFinite => "a float is not finite or, in cutting, beyond 2^500",
+            Refusal::BadWindow => "the window has a side that is not finite or beyond 2^500, or lo > hi",
             Refusal::BadFace => "no such face, axis or direction",
             Refusal::Zero => "a vector, a normal or a divisor is zero",
             Refusal::OffFace => "the line does not meet the face",

@@ -12,7 +12,7 @@ pub struct Counts {
     pub kept: usize,
     /// Those with none.
     pub missed: usize,
-    /// Those that touch a dead sample, one with a float that is NaN or an infinity.
+    /// Those that touch a dead sample, one with a float that is NaN, an infinity or beyond 2^500 in magnitude.
     pub refused: usize,
     /// All of them.
     pub edges: usize,

@@ -40,11 +40,12 @@ fn p5_dead_sample() {
     assert_eq!(clip_edge(at(0.0, 0.0), at(4.0, f64::NAN), plot()), Err(Refusal::NotFinite));
 }
 
+/// As change request W5 has it.
 #[test]
-fn p6_overflow() {
+fn p6_beyond_the_limit() {
     let huge = 2f64.powi(1023);
     let unit = window([0.0, 1.0], [0.0, 1.0]);
-    assert_eq!(clip_edge(at(-huge, 0.0), at(huge, 1.0), unit), Ok((at(0.0, 0.0), at(1.0, 0.0))));
+    assert_eq!(clip_edge(at(-huge, 0.0), at(huge, 1.0), unit), Err(Refusal::NotFinite));
 }
 
 #[test]

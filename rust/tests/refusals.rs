@@ -4,7 +4,7 @@ use std::error::Error;
 use umblacet::r1::interval::Interval;
 use umblacet::r2::{point::Point, rect::Rect};
 use umblacet::r3::vector::Vector;
-use umblacet::s2::edge_clipping::{clip_edge, walk};
+use umblacet::s2::edge_clipping::*;
 use umblacet::s2::stuv::face_xyz_to_uv;
 use umblacet::Refusal;
 
@@ -57,6 +57,36 @@ fn edges_and_windows() {
     assert_eq!(clip_edge(ORIGIN, b, window(axis(5.0, 6.0))), Err(Refusal::Missed));
 }
 
+/// The greatest floats that cutting admits, and the least and the greatest that it does not.
+#[test]
+fn the_limit_of_cutting() {
+    let limit = 2f64.powi(500);
+    let far = |x| Point { x, y: 0.0 };
+    let wide = |x: Interval| Rect { x, y: Interval::new(-limit, limit) };
+    let whole = wide(Interval::new(-limit, limit));
+    for x in [limit, -limit, limit.next_down()] {
+        assert_eq!(clip_edge(ORIGIN, far(x), whole), Ok((ORIGIN, far(x))));
+        assert_eq!(edge_intersects_rect(ORIGIN, far(x), &whole), Ok(true));
+        assert_eq!(interpolate(x, 0.0, x, 0.0, x), Ok(x));
+        assert_eq!(clip_edge(far(x), far(x), wide(Interval::new(x, x))), Ok((far(x), far(x))));
+    }
+    for x in [limit.next_up(), -limit.next_up(), f64::MAX, -f64::MAX] {
+        let bound = Interval::new(0.0, 1.0);
+        let side = Interval::new(x.min(0.0), x.max(0.0));
+        assert_eq!(clip_edge(ORIGIN, far(x), wide(side)), Err(Refusal::NotFinite), "before the window");
+        assert_eq!(clip_edge(ORIGIN, ORIGIN, wide(side)), Err(Refusal::BadWindow));
+        assert_eq!(edge_intersects_rect(far(x), ORIGIN, &whole), Err(Refusal::NotFinite));
+        assert_eq!(edge_intersects_rect(ORIGIN, ORIGIN, &wide(side)), Err(Refusal::BadWindow));
+        assert_eq!(clip_edge_bound(ORIGIN, ORIGIN, whole, wide(side)), Err(Refusal::NotFinite));
+        assert_eq!(clip_bound_axis(0.0, 0.0, bound, x, 0.0, bound, false, bound), Err(Refusal::NotFinite));
+        assert_eq!(clip_bound_axis(0.0, 0.0, bound, 0.0, 0.0, bound, false, side), Err(Refusal::BadWindow));
+        assert_eq!(update_endpoint(bound, false, x), Err(Refusal::NotFinite));
+        assert_eq!(interpolate(x, 0.0, 1.0, 0.0, 1.0), Err(Refusal::NotFinite));
+        assert_eq!(Point::new(x, x), Ok(Point { x, y: x }), "only cutting has a limit");
+    }
+    assert_eq!(interpolate(1.0, 0.0, f64::from_bits(1), 0.0, 1.0), Ok(f64::INFINITY), "beyond the ends");
+}
+
 #[test]
 fn faces_and_points() {
     assert_eq!(face_xyz_to_uv(0, &Vector::new(-1.0, 0.0, 0.0)), Err(Refusal::Missed));
@@ -68,6 +98,6 @@ fn faces_and_points() {
 #[test]
 fn a_refusal_is_an_error() {
     let error: Box<dyn Error> = Refusal::BadWindow.into();
-    assert_eq!(error.to_string(), "the window has a side that is not finite, or lo > hi");
+    assert_eq!(error.to_string(), "the window has a side that is not finite or beyond 2^500, or lo > hi");
     assert_eq!(Refusal::BadWindow.number(), 3);
 }

@@ -57,6 +57,21 @@ fn each_record_is_the_answer_for_its_edge() {
 }
 
 #[test]
+fn the_limit_of_cutting() {
+    let limit = 2f64.powi(500);
+    let back_and_forth = |x| cut(&[1.0, 1.0, x, 1.0, 1.0, 1.0], PLOT, 2 * RECORD);
+    let kept = [record(0, [1.0, 1.0, 3.0, 1.0]), record(0, [3.0, 1.0, 1.0, 1.0])].concat();
+    assert_eq!(back_and_forth(limit), (Ok(Counts { kept: 2, missed: 0, refused: 0, edges: 2 }), kept));
+    let dead = record(2, [0.0; 4]).repeat(2);
+    for x in [limit.next_up(), -limit.next_up(), f64::MAX] {
+        assert_eq!(back_and_forth(x), (Ok(Counts { kept: 0, missed: 0, refused: 2, edges: 2 }), dead.clone()));
+    }
+    let wide = |hi| Rect { x: Interval::new(-limit, hi), ..PLOT };
+    assert_eq!(cut(&TRACE, wide(limit), 200).0.map(|counts| counts.edges), Ok(5));
+    assert_eq!(cut(&TRACE, wide(limit.next_up()), 200), (Err(Refusal::BadWindow), vec![UNTOUCHED; 200]));
+}
+
+#[test]
 fn a_trace_cut_at_any_sample_gives_the_same_records() {
     let (whole, bytes) = cut(&TRACE, PLOT, 5 * RECORD);
     let whole = whole.expect("there is room");

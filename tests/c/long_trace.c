@@ -33,13 +33,17 @@ static double not_a_number(void)
     return value;
 }
 
-/* -0.5 to 1.5, so that samples lie in the window and on all its sides; now and then that of the sample before, or that
- * of a dead one. */
+/* -0.5 to 1.5, so that samples lie in the window and on all its sides; now and then that of the sample before, one as
+ * great as is admitted, or that of a dead one. */
 static double coordinate(size_t place)
 {
     const uint64_t word = random_word();
-    if (word % 64 == 0)
+    if (word % 128 == 0)
         return not_a_number();
+    if (word % 128 == 64)
+        return 0x1.0000000000001p500;
+    if (word % 128 == 2)
+        return -0x1p500;
     if (word % 16 == 1 && place >= 2)
         return samples[place - 2];
     return (double)(word >> 11) / 4503599627370496 - 0.5;

@@ -1,8 +1,9 @@
 /* Answers requests by the library: 192 bytes each on standard input, a line each on standard output. Beside the lines
  * it checks what no line shows, and ends with 1 where one of these fails: zeros stand beside any number but 0, the same
- * call gives the same answer, a walk and a trace leave alone what was not lent to them, and the records of traces that
- * are longer than a request can hold are the answers for their edges. */
+ * call gives the same answer, a walk and a trace leave alone what was not lent to them, the records of traces that are
+ * longer than a request can hold are the answers for their edges, and no float is cut that is beyond 2^500. */
 #include "calls.h"
+#include "limit.h"
 #include "line.h"
 #include "long_trace.h"
 #include "trace.h"
@@ -74,11 +75,10 @@ static void answer_request(const request *r)
         answer_call(r);
 }
 
-static void check_long_traces(void)
+static void must_be_null(const char *wrong, const char *where)
 {
-    const char *const wrong = wrong_with_long_traces();
     if (wrong != NULL) {
-        fprintf(stderr, "long traces: not so: %s\n", wrong);
+        fprintf(stderr, "%s: not so: %s\n", where, wrong);
         all_hold = false;
     }
 }
@@ -94,6 +94,7 @@ int main(void)
     }
     if (length > 0)
         write_number(TORN_INPUT);
-    check_long_traces();
+    must_be_null(wrong_with_long_traces(), "long traces");
+    must_be_null(wrong_about_the_limit(), "the limit");
     return all_hold && !ferror(stdin) && fflush(stdout) == 0 ? 0 : 1;
 }

@@ -17,11 +17,11 @@ done = 0
 abbrev pub missed : ℕ
 missed = 1
 
--- a float other than the window's is not finite
+-- a float other than the window's is not finite, or where an edge is cut it is beyond 2 ^ 500
 abbrev pub notFinite : ℕ
 notFinite = 2
 
--- a window side is not finite, or lo > hi on either axis
+-- a window side is beyond 2 ^ 500 or not finite, or lo > hi on either axis
 abbrev pub badWindow : ℕ
 badWindow = 3
 

@@ -7,9 +7,9 @@ ghost use Rattle.answer.specs.Answer.{realAnswer, yesNoAnswer, needFinit
 pub const DONE: u8 = 0;
 // A miss of the window; a vector not on the side of the asked face.
 pub const MISSED: u8 = 1;
-// A float other than the window's is not finite.
+// A float other than the window's is not admitted: it is not finite, or where an edge is cut it is beyond 2^500.
 pub const NOT_FINITE: u8 = 2;
-// A window side is not finite, or lo > hi on either axis.
+// A window side is not admitted: it is beyond 2^500 or not finite; or lo > hi on either axis.
 pub const BAD_WINDOW: u8 = 3;
 // A face above 5, an axis above 2, a direction above 1.
 pub const BAD_FACE: u8 = 4;

@@ -76,16 +76,16 @@ moved-wider i j d v n e =
 
 -- ---- one side of the window
 -- t is what a cut left of two axes
-record Cut (t : Both) (this other : Interval) : Type 0 where
-  on-this : Part (t .this) this
-  on-other : Part (t .other) other
+pub record Cut (t : Both) (this other : Interval) : Type 0 where
+  pub on-this : Part (t .this) this
+  pub on-other : Part (t .other) other
 
 other-left : {R : Type 0} (i : Interval) (m : Moved) (t : Both) → otherMoved i m ≡ Left t → ((j : Interval) → m ≡ To j → record { this = i; other = j } ≡ t → R) → R
 unfolding otherMoved
 other-left i (To j) t e f = f j refl (left-same _ t e)
 other-left i Lost t e f = left-gone t e
 
-side-left : (d : Bool) (a0 b0 : Float) (this : Interval) (a1 b1 : Float) (other : Interval) (neg : Bool) (w : Interval) (t : Both) → Some this → Some other → Num (endOf w d)
+pub side-left : (d : Bool) (a0 b0 : Float) (this : Interval) (a1 b1 : Float) (other : Interval) (neg : Bool) (w : Interval) (t : Both) → Some this → Some other → Num (endOf w d)
     → sideCut d a0 b0 this a1 b1 other neg w ≡ Left t → Cut t this other × Reach d (t .this) w
 unfolding sideCut
 side-left d a0 b0 this a1 b1 other neg w t p q n e =
@@ -100,7 +100,7 @@ side-left d a0 b0 this a1 b1 other neg w t p q n e =
     Result u = Cut u this other × Reach d (u .this) w
 
 -- ---- one axis: the low side, then the high
-axis-left : (a0 b0 : Float) (this : Interval) (a1 b1 : Float) (other : Interval) (neg : Bool) (w : Interval) (t : Both) → Some this → Some other → Some w
+pub axis-left : (a0 b0 : Float) (this : Interval) (a1 b1 : Float) (other : Interval) (neg : Bool) (w : Interval) (t : Both) → Some this → Some other → Some w
     → axisCut a0 b0 this a1 b1 other neg w ≡ Left t → Cut t this other × Part (t .this) w
 unfolding axisCut thenHigh
 axis-left a0 b0 this a1 b1 other neg w t p q n e = go (sideCut false a0 b0 this a1 b1 other neg w) refl e

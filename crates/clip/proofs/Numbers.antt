@@ -9,6 +9,7 @@ use borrow.Author.Tests.{eq-eqb}
 use lib.Ieee.{Float, lt, le}
 use Rattle.float.specs.Choice.{when_then_else_, _and_}
 use Rattle.float.proofs.Order.{Num, finite-num, not-le, lt-not-le}
+use Rattle.float.proofs.UpTo.{test-finite}
 use Rattle.answer.specs.Answer.{done, beside}
 use Rattle.plane.specs.Interval.{isEmpty}
 use Rattle.plane.specs.Rect.{boxOf}
@@ -95,6 +96,14 @@ never points window = subst (Numbered points window ⊥) (same points window) (n
     same true false = unfold planeRefusal beside when_then_else_ in refl
     same false w = unfold planeRefusal beside when_then_else_ in refl
 
+-- where nothing is refused both tests hold
+pub fine-parts : (points window : Bool) → planeRefusal points window ≡ done → (points ≡ true) × (window ≡ true)
+fine-parts points window e = let (p, q, n) = never points window .zero .0 e in (p, q)
+
+pub fine-from : (points window : Bool) → points ≡ true → window ≡ true → planeRefusal points window ≡ done
+unfolding planeRefusal when_then_else_
+fine-from points window p q = rw (p, q)
+
 -- ---- the entries, by the cases of what each cuts
 edge-told : (a b : Point) (m : BoxCut) → Told (m ≡ Outside) (numberOf (edgeAnswer a b m))
 unfolding Told edgeAnswer numberOf
@@ -179,7 +188,7 @@ bad-sides i = (
     go true true e f h = inr (inr (not-le _ _ (num _ e) (num _ f) (elim (and-no _ _ .0 h) [ inl k ↦ neither (sym (unfold when_then_else_ in k)) | inr k ↦ k ])))
       where
         num : (x : Float) → side x ≡ true → Num x
-        num x h = unfold side in finite-num x h
+        num x h = unfold side in finite-num x (test-finite x _ h)
 
 pub numbers : Numbers
 numbers = record {

@@ -5,18 +5,19 @@ use Prim.Native.Nat.{ℕ}
 use native.Mathlib.Omega.{arith}
 use lib.Dec.{eqb}
 use borrow.Author.Tests.{eqb-true, eqb-false}
-use lib.Ieee.{Float, nan, inf, fin, lt}
+use lib.Ieee.{Float, le}
 use Rattle.float.specs.Choice.{when_then_else_}
 use Rattle.float.specs.Float.{finite}
-use Rattle.float.proofs.Choice.{else-is, split, cases, and-parts, and-both}
-use Rattle.float.proofs.Order.{finite-num}
+use Rattle.float.proofs.Choice.{cases, and-parts, and-both}
+use Rattle.float.proofs.Order.{Num, finite-num}
+use Rattle.float.proofs.UpTo.{test-finite}
 use Rattle.answer.specs.Answer.{done, missed, beside}
 use Rattle.answer.proofs.Beside.{beside-done}
-use Rattle.plane.specs.Point.{at}
+use Rattle.plane.specs.Point.{at, differenceOf, orthoOf}
 use Rattle.plane.specs.Interval.{endOf, finiteInterval}
 use Rattle.plane.specs.Rect.{boxOf}
 use Rattle.plane.specs.Answers.{zeroRect, rectAnswer}
-use Rattle.plane.specs.Within.{In, Some, Ends, InRect, SomeRect, PartRect, EndsRect, ShareRect}
+use Rattle.plane.specs.Within.{In, Ends, InRect, SomeRect, PartRect, EndsRect, ShareRect}
 use Rattle.plane.specs.declared.point.Point.{Point}
 use Rattle.plane.specs.declared.interval.Interval.{Interval}
 use Rattle.plane.specs.declared.rect.Rect.{Rect}
@@ -30,31 +31,24 @@ use Rattle.clip.specs.declared.compute.BoxCut.{BoxCut}
 use Rattle.clip.specs.declared.compute.BoxCut.the-variants.{Inside, Outside}
 use Rattle.clip.specs.declared.Clipped.{Clipped}
 use Rattle.clip.specs.declared.Clipped.the-variants.{Kept, Missed, Refused}
-use Rattle.clip.specs.Cut.{inward, movedEnd, boxCut, edgeMeets}
-use Rattle.clip.specs.Refuse.{coordinate, planeRefusal, pointFine, boundFine, sidesFine, windowFine, edgeRefusal, boundRefusal}
+use Rattle.clip.specs.Cut.{movedEnd, boxCut, offLine, farthest, nearest, edgeMeets}
+use Rattle.clip.specs.Refuse.{coordinate, pointFine, boundFine, windowFine, edgeRefusal, boundRefusal}
 use Rattle.clip.specs.Answers.{ends, second, whole, edgeAnswer, clipped, numberOf, pointsOf, boundAnswer, boundOrRefusal, endAnswer}
+use Rattle.clip.specs.Values.{HandedIn, floatsOf}
 use Rattle.clip.specs.Promises.{Fine, NoWider, KeptBox, BothIn, Promises}
 use Rattle.clip.proofs.Moves.{Ended, moved-wider, box-inside, box-stays}
-use Rattle.clip.proofs.Numbers.{numbers}
+use Rattle.clip.proofs.Numbers.{fine-from, fine-parts, numbers}
+use Rattle.clip.proofs.Values.{fine-some, values}
 use Rattle.clip.proofs.Farthest.{is-farthest, is-nearest, nan-says-no}
 
 -- ---- what is not refused is finite, and the window is good
 absurd-number : {A : Type 0} (n : ℕ) → n ≡ 0 → eqb n 0 ≡ false → A
 absurd-number n e f = let z : eqb 0 0 ≡ false = subst (λ (k : ℕ). eqb k 0 ≡ false) e f in let y : _≡_ {A = Bool} true false = z in let x : _≡_ {A = ℕ} 0 1 = cc in absurd (omega arith)
 
-fine-parts : (points window : Bool) → planeRefusal points window ≡ 0 → (points ≡ true) × (window ≡ true)
-unfolding planeRefusal
-fine-parts points window e =
-    split _ _ _ _ e (λ p f. split _ _ _ _ f (λ q g. (p, q)) (λ q g. absurd-number 3 g refl)) (λ p f. absurd-number 2 f refl)
-
 -- both coordinates of a point that is fine are finite
 fine-point : (p : Point) → pointFine p ≡ true → (finite (p .x) ≡ true) × (finite (p .y) ≡ true)
 unfolding coordinate
-fine-point p e = and-parts _ _ e
-
-fine-some : (i : Interval) → sidesFine i ≡ true → Some i
-unfolding sidesFine
-fine-some i e = and-parts _ _ e .1
+fine-point p e = let (x, y) = and-parts _ _ e in (test-finite _ _ x, test-finite _ _ y)
 
 pub record Good (a b : Point) (w : Rect) : Type 0 where
   pub first-some : SomeRect (boxOf a b)
@@ -120,7 +114,7 @@ module _ (P : Clipped → Type 0) (a b : Point) (w : Rect) where
 -- ---- boxes
 fine-ends : (i : Interval) → boundFine i ≡ true → Ends i
 unfolding coordinate
-fine-ends i e = let (l, h) = and-parts _ _ e in record { low = l; high = h }
+fine-ends i e = let (l, h) = and-parts _ _ e in record { low = test-finite _ _ l; high = test-finite _ _ h }
 
 fine-box : (a b : Point) (w r : Rect) → boundRefusal a b w r ≡ done → EndsRect r × SomeRect w
 unfolding windowFine
@@ -168,10 +162,6 @@ unfolding boundAnswer
 apart-box a b w r n s f = ap (λ (c : RectAnswer). c .number) (fine-bound a b w r n ∙ ap boundAnswer (apart-cut a b w r n s f))
 
 -- ---- the box of A and B: its sides are coordinates of A and B
-fine-from : (points window : Bool) → points ≡ true → window ≡ true → planeRefusal points window ≡ done
-unfolding planeRefusal when_then_else_
-fine-from points window p q = rw (p, q)
-
 first-box : (a b : Point) (w : Rect) → Fine a b w → SomeRect (boxOf a b) × (boundRefusal a b w (boxOf a b) ≡ done)
 first-box a b w f =
     let (p, q) = fine-parts _ _ f in
@@ -236,23 +226,21 @@ never-wider i high v f = go (movedEnd i high v) refl
     go (To j) e n = unfold endAnswer beside when_then_else_ in moved-wider i j high v nums e
     go Lost e n = unfold endAnswer in absurd-number 1 n refl
 
--- a NaN is inward of nothing
-nan-stays : (i : Interval) (high : Bool) → movedEnd i high nan ≡ To i
-unfolding movedEnd
-nan-stays i high = sym (else-is _ _ _ _ (outside high _) (else-is _ _ _ _ (outside high _) refl))
-  where
-    outside : (high : Bool) (y : Float) → inward high nan y ≡ false
-    outside true y = unfold inward when_then_else_ lt in refl
-    outside false nan = unfold inward when_then_else_ lt in refl
-    outside false (inf s) = unfold inward when_then_else_ lt in refl
-    outside false (fin s m e) = unfold inward when_then_else_ lt in refl
+-- ---- the corners
+corners-between : (a b : Point) (r : Rect) → HandedIn (floatsOf a b r) → Fine a b r → (i j : Bool)
+    → let n = orthoOf (differenceOf b a) in (le (offLine n a r i j) (farthest n a r) ≡ true) × (le (nearest n a r) (offLine n a r i j) ≡ true)
+corners-between a b r h f i j =
+    let n = orthoOf (differenceOf b a) in
+    let s = good a b r f .window-some in
+    let num : (i j : Bool) → Num (offLine n a r i j) = λ i j. finite-num _ (values .corners-finite a b r h f i j) in
+    (is-farthest n a r s (num _ _) i j (num i j), is-nearest n a r s (num _ _) i j (num i j))
 
 pub promises : Promises
 unfolding edgeMeets numberOf pointsOf endAnswer
 promises = record {
   numbers = numbers;
+  values = values;
   never-wider = never-wider;
-  nan-moves-nothing = λ i high. ap endAnswer (nan-stays i high);
   first-box = first-box;
   kept-box = kept-box;
   inside-box = inside-box;
@@ -264,5 +252,6 @@ promises = record {
   meets-share = λ a b r e. box-share r a b (and-parts _ _ e .0);
   is-farthest = is-farthest;
   is-nearest = is-nearest;
+  corners-between = corners-between;
   nan-says-no = nan-says-no;
 }

@@ -3,5 +3,6 @@ pub mod Cut
 pub mod Turns
 pub mod Refuse
 pub mod Answers
+pub mod Values
 pub mod Promises
 pub mod Inner

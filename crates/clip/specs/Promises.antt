@@ -1,15 +1,15 @@
--- What is promised of cutting, overflow included, by the number that an entry gives and the values beside it. Statements only; proofs/Promises.antt has the proofs.
+-- What is promised of cutting, by the number that an entry gives and the values beside it. Statements only; proofs/Promises.antt has the proofs.
 use Prim.Native.Nat.{ℕ, _≤_}
 use mathlib.Core.Path.{_≡_}
 use mathlib.Core.Logic.{_↔_, _⊎_}
 use mathlib.Core.Bool.{Bool, true, false}
-use lib.Ieee.{Float, nan, isNan, le}
+use lib.Ieee.{Float, isNan, le}
 use Rattle.float.specs.Choice.{_and_}
 use Rattle.answer.specs.Answer.{done, missed, notFinite, badWindow}
 use Rattle.plane.specs.Point.{at, differenceOf, orthoOf}
 use Rattle.plane.specs.Interval.{isEmpty, finiteInterval}
 use Rattle.plane.specs.Rect.{boxOf}
-use Rattle.plane.specs.Answers.{intervalAnswer, rectAnswer}
+use Rattle.plane.specs.Answers.{rectAnswer}
 use Rattle.plane.specs.Within.{InRect, Some, SomeRect, PartRect, EndsRect, ShareRect}
 use Rattle.plane.specs.declared.point.Point.{Point}
 use Rattle.plane.specs.declared.interval.Interval.{Interval}
@@ -27,6 +27,7 @@ use Rattle.clip.specs.declared.Clipped.the-variants.{Kept}
 use Rattle.clip.specs.Cut.{movedEnd, axisCut, boxCut, offLine, farthest, nearest, edgeMeets}
 use Rattle.clip.specs.Refuse.{coordinate, side, coordinates, pointFine, boundFine, boxFine, sidesFine, windowFine, edgeRefusal, boundRefusal}
 use Rattle.clip.specs.Answers.{whole, clipped, numberOf, pointsOf, boundOrRefusal, axisOrRefusal, endAnswer, endOrRefusal, meetsOrRefusal, valueOrRefusal}
+use Rattle.clip.specs.Values.{HandedIn, floatsOf, Values}
 
 -- nothing is refused of the edge and the window
 abbrev pub Fine : Point → Point → Rect → Type 0
@@ -83,10 +84,10 @@ pub record BothIn (r : Rect) (s : Segment) : Type 0 where
 
 pub record Promises : Type 0 where
   pub numbers : Numbers
-  -- moving an end never widens, and a value that is a NaN moves nothing
+  pub values : Values
+  -- moving an end never widens
   pub never-wider : (i : Interval) (high : Bool) (v : Float) → finiteInterval i ≡ true
       → endAnswer (movedEnd i high v) .number ≡ done → NoWider (endAnswer (movedEnd i high v) .interval) i
-  pub nan-moves-nothing : (i : Interval) (high : Bool) → endAnswer (movedEnd i high nan) ≡ intervalAnswer done i
   -- the box of A and B is nonempty and not refused
   pub first-box : (a b : Point) (window : Rect) → Fine a b window → SomeRect (boxOf a b) × (boundRefusal a b window (boxOf a b) ≡ done)
   -- from it, or from any nonempty box, every kept box is nonempty and within both window and first box
@@ -114,6 +115,9 @@ pub record Promises : Type 0 where
       → (i j : Bool) → isNan (offLine n a r i j) ≡ false → le (offLine n a r i j) (farthest n a r) ≡ true
   pub is-nearest : (n a : Point) (r : Rect) → SomeRect r → isNan (nearest n a r) ≡ false
       → (i j : Bool) → isNan (offLine n a r i j) ≡ false → le (nearest n a r) (offLine n a r i j) ≡ true
-  -- and a NaN at either says no
+  -- with nothing refused no place is a NaN (Values.antt, `corners-finite`): they are the farthest and the nearest of all four
+  pub corners-between : (a b : Point) (r : Rect) → HandedIn (floatsOf a b r) → Fine a b r → (i j : Bool)
+      → let n = orthoOf (differenceOf b a) in (le (offLine n a r i j) (farthest n a r) ≡ true) × (le (nearest n a r) (offLine n a r i j) ≡ true)
+  -- a NaN at either says no: this is of any floats, and in the entry no NaN can arise
   pub nan-says-no : (a b : Point) (r : Rect)
       → (isNan (farthest (orthoOf (differenceOf b a)) a r) ≡ true) ⊎ (isNan (nearest (orthoOf (differenceOf b a)) a r) ≡ true) → edgeMeets a b r ≡ false

@@ -1,20 +1,25 @@
 -- What the entries of module 4 refuse, in document 01's order for the plane: 2, then 3.
 use Prim.Native.Nat.{ℕ}
-use mathlib.Core.Bool.{Bool, true}
-use lib.Ieee.{Float, le}
+use mathlib.Core.Bool.{Bool, true, false}
+use lib.IntN.{pos}
+use lib.Ieee.{Float, fin, le}
 use Rattle.float.specs.Choice.{_and_}
-use Rattle.float.specs.Float.{finite}
+use Rattle.float.specs.Float.{magnitudeOf}
 use Rattle.answer.specs.Answer.{unless_refuse_else_, done, notFinite, badWindow}
 use Rattle.plane.specs.declared.point.Point.{Point}
 use Rattle.plane.specs.declared.interval.Interval.{Interval}
 use Rattle.plane.specs.declared.rect.Rect.{Rect}
 
--- what is admitted as a point's coordinate, and as a window's side
+-- 2 ^ 500
+abbrev pub limit : Float
+limit = fin false 1 (pos 500)
+
+-- what is admitted as a point's coordinate, and as a window's side: at most 2 ^ 500 in magnitude, which no NaN and no infinity is
 unfoldable pub coordinate : Float → Bool
-coordinate x = finite x
+coordinate x = le (magnitudeOf x) limit
 
 unfoldable pub side : Float → Bool
-side x = finite x
+side x = le (magnitudeOf x) limit
 
 -- 2 for a float other than the window's, then 3 for the window
 unfoldable pub planeRefusal : Bool → Bool → ℕ

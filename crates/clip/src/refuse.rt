@@ -1,7 +1,10 @@
-// What is refused, in document 01's order for the plane: 2, then 3. Each gives the number, 0 where
-// nothing is refused.
+// What is refused, in document 01's order for the plane: 2 for a float beyond 2^500 or not finite, then
+// 3 for a window with such a side or lo > hi. Each gives the number, 0 where nothing is refused.
 ghost use mathlib.Core.Path.{_≡_};
+ghost use mathlib.Core.Bool.{true};
 ghost use Rattle.float.specs.Choice.{_and_};
+ghost use Rattle.float.specs.Float.{_⊕_, magnitudeOf};
+ghost use Rattle.answer.specs.Answer.{done};
 ghost use Rattle.clip.specs.Refuse.{coordinate, side, coordinates, pointFine, boundFine, boxFine, sidesFine, windowFine, planeRefusal, valueRefusal, endRefusal, axisRefusal, boundRefusal, edgeRefusal};
 use answer::BAD_WINDOW;
 use answer::DONE;
@@ -11,10 +14,13 @@ use plane::Interval;
 use plane::Point;
 use plane::Rect;
 
-// Of an edge and a window.
+// Of an edge and a window. Most have nothing to refuse, which one sum tells for less than the tests in order.
 pub fn edge(a: Point, b: Point, window: Rect) -> u8
     ensures { λ r. ⌜ r ≡ edgeRefusal a b window ⌝ }
 {
+    if surely_fine(a, b, window) {
+        return DONE;
+    }
     in_order(points_fine(a, b), window_fine(window))
 }
 
@@ -60,6 +66,25 @@ pub fn value(x: f64, a: f64, b: f64, a1: f64, b1: f64) -> u8
     in_order(both(is_coordinate(x), ends), true)
 }
 
+// ---- all at once: where a sum of magnitudes is admitted each of them is
+
+fn surely_fine(a: Point, b: Point, window: Rect) -> bool
+    ensures { λ r. ⌜ (r ≡ true → edgeRefusal a b window ≡ done) ⌝ }
+{
+    let low = sizes(a.x, b.x) + sizes(window.x.lo, window.y.lo);
+    let high = sizes(a.y, b.y) + sizes(window.x.hi, window.y.hi);
+    both(
+        low + high <= LIMIT,
+        both(window.x.lo <= window.x.hi, window.y.lo <= window.y.hi),
+    )
+}
+
+fn sizes(x: f64, y: f64) -> f64
+    ensures { λ r. ⌜ r ≡ (magnitudeOf x ⊕ magnitudeOf y) ⌝ }
+{
+    float::magnitude(x) + float::magnitude(y)
+}
+
 // ---- the order, and the two predicates that it asks
 
 fn in_order(points: bool, window: bool) -> u8
@@ -74,16 +99,19 @@ fn in_order(points: bool, window: bool) -> u8
     DONE
 }
 
+// 2^500, the greatest magnitude that is admitted; none of a NaN or of an infinity is as small.
+const LIMIT: f64 = 3.273390607896142e150;
+
 fn is_coordinate(x: f64) -> bool
     ensures { λ r. ⌜ r ≡ coordinate x ⌝ }
 {
-    float::is_finite(x)
+    float::magnitude(x) <= LIMIT
 }
 
 fn is_side(x: f64) -> bool
     ensures { λ r. ⌜ r ≡ side x ⌝ }
 {
-    float::is_finite(x)
+    float::magnitude(x) <= LIMIT
 }
 
 fn coordinates(x: f64, y: f64) -> bool

@@ -24,3 +24,6 @@ pub mod ProductOrder
 pub mod Sums
 pub mod Unit
 pub mod Laws
+pub mod UpTo
+pub mod Bounded
+pub mod Summands

@@ -1,4 +1,4 @@
--- Document 01's instances marked P, one table under a single statement, over the entries' own definitions, which their contracts cite.
+-- Document 01's instances marked P, as the change requests have them, and the limits of what is admitted, one table under a single statement, over the entries' own definitions, which their contracts cite.
 use mathlib.Core.Path.{_≡_}
 use Prim.Native.Nat.{ℕ}
 use mathlib.Core.Bool.{true, false}
@@ -18,7 +18,7 @@ use Rattle.line.specs.Entries.{sumEqualOrRefusal, meetsFaceOrRefusal, oppositeE
 use Rattle.line.specs.declared.compute.Axis.the-variants.{«V»}
 use Rattle.walk.specs.Answers.{walkOrRefusal, bufferAfter}
 use Rattle.walk.specs.declared.compute.WalkAnswer.{WalkAnswer}
-use Rattle.instances.specs.Numbers.{n0, -n0, -n1, tiny, n2+, n¼, n½, n¾, n1, n1½, n2, n3, n4, huge, -huge, notANumber, x_to_y_to_}
+use Rattle.instances.specs.Numbers.{n0, -n0, -n1, tiny, n2+, n¼, n½, n¾, n1, n1½, n2, n3, n4, most, most+, huge, -huge, notANumber, x_to_y_to_}
 
 -- an edge's answer: its number, and the kept points or zeros
 abbrev pub told : Clipped → ℕ × Segment
@@ -64,7 +64,13 @@ pub record Instances : Type 0 where
   -- b.y is NaN
   pub p5 : told (clipped (at n0 n0) (at n4 notANumber) (x n1 to n3 y n0 to n2)) ≡ only 2
   -- (-2^1023,0)-(2^1023,1), x 0..1, y 0..1
-  pub p6 : told (clipped (at -huge n0) (at huge n1) (x n0 to n1 y n0 to n1)) ≡ keptFrom n0 n0 n1 n0
+  pub p6 : told (clipped (at -huge n0) (at huge n1) (x n0 to n1 y n0 to n1)) ≡ only 2
+  -- a coordinate of 2^500, and of the next float above it: (0,0)-(2^500,0), x 0..1, y 0..1
+  pub most-coordinate : told (clipped (at n0 n0) (at most n0) (x n0 to n1 y n0 to n1)) ≡ keptFrom n0 n0 n1 n0
+  pub past-coordinate : told (clipped (at n0 n0) (at most+ n0) (x n0 to n1 y n0 to n1)) ≡ only 2
+  -- the same two as a window's side: (0,0)-(1,1), x 0..2^500, y 0..1
+  pub most-side : told (clipped (at n0 n0) (at n1 n1) (x n0 to most y n0 to n1)) ≡ keptFrom n0 n0 n1 n1
+  pub past-side : told (clipped (at n0 n0) (at n1 n1) (x n0 to most+ y n0 to n1)) ≡ only 3
   -- face of (1,1,1), and of (-1,1,1): 0 at (1,1), 3 at (-1,-1)
   pub p7 : faceUvOrRefusal (vec n1 n1 n1) ≡ record { number = 0; face = 0; u = n1; v = n1 }
   pub p7-minus : faceUvOrRefusal (vec -n1 n1 n1) ≡ record { number = 0; face = 3; u = -n1; v = -n1 }

@@ -44,6 +44,13 @@ tiny = ofBits binary64 0x3ca0_0000_0000_0000
 abbrev pub n2+ : Float
 n2+ = ofBits binary64 0x4000_0000_0000_0001
 
+-- 2 ^ 500, and the next float above it
+abbrev pub most : Float
+most = ofBits binary64 0x5f30_0000_0000_0000
+
+abbrev pub most+ : Float
+most+ = ofBits binary64 0x5f30_0000_0000_0001
+
 -- 2 ^ 1023 and its negative
 abbrev pub huge : Float
 huge = ofBits binary64 0x7fe0_0000_0000_0000

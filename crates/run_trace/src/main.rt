@@ -166,7 +166,7 @@ fn main() {
             begun,
             io::write_all(
                 STDERR_FILENO,
-                b"trace: bad window: a side is not finite, or lo > hi\n",
+                b"trace: bad window: a side is not finite or beyond 2^500, or lo > hi\n",
             ),
         );
         return;

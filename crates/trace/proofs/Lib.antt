@@ -1,5 +1,4 @@
 -- Laws that the proofs of this crate cite, and the promises.
-pub mod Live
 pub mod OneEdge
 pub mod Cuts
 pub mod Writing

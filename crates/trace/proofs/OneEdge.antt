@@ -1,5 +1,5 @@
 -- One edge in a window that is not refused: its refusal, and else its cut.
-use Prim.Native.Nat.{ℕ, _+_, _*_, _<_}
+use Prim.Native.Nat.{ℕ, _+_}
 use mathlib.Core.Path.{_≡_, refl, sym, ap, subst, _∙_}
 use mathlib.Core.Bool.{Bool, true, false, not}
 use mathlib.Core.List.{List}
@@ -27,11 +27,8 @@ use Rattle.clip.proofs.Turns.{four-sides}
 use Rattle.clip.proofs.Promises.{promises}
 use Rattle.buffer.specs.Bytes.{placed}
 use Rattle.record.specs.Record.{Ends, recordBytes}
-use Rattle.trace.specs.Inner.{sampleOf, Seen, counted, Numbers}
+use Rattle.trace.specs.Inner.{keptWith, Numbers}
 use Rattle.trace.specs.Records.{noEnds, endsOf, cutBytes, isKept, isRefused}
-use Rattle.trace.specs.declared.edge.Sample.{Sample}
-use Rattle.trace.specs.declared.edge.Counts.{Counts}
-use Rattle.trace.proofs.Live.{marks}
 
 -- ---- what is refused
 pub fine-edge : (a b : Point) (w : Rect) → windowFine w ≡ true → (pointFine a and pointFine b) ≡ true → Fine a b w
@@ -70,19 +67,13 @@ module _ (P : Clipped → Type 0) (a b : Point) (w : Rect) where
       go true f = cut-cases f p k m
       go false f = subst P (window-refused a b w f p) r
 
--- ---- by what is known of its two samples
-module _ (a b : Sample) (w : Rect) (s : Seen a b w) where
-  live-is : le (a .mark) (b .mark) ≡ (pointFine (a .place) and pointFine (b .place))
-  live-is =
-      let f : a .mark ≡ sampleOf (a .place) .mark = ap (λ (t : Sample). t .mark) (s .a-so) in
-      let g : b .mark ≡ sampleOf (b .place) .mark = ap (λ (t : Sample). t .mark) (s .b-so) in
-      rw (f, g) (marks (a .place) (b .place))
-
-  pub seen-dead : le (a .mark) (b .mark) ≡ false → Refused 2 ≡ clipped (a .place) (b .place) w
-  seen-dead e = dead-refused _ _ w (sym live-is ∙ e)
-
-  pub seen-fine : le (a .mark) (b .mark) ≡ true → Fine (a .place) (b .place) w
-  seen-fine e = fine-edge _ _ w (s .fine) (sym live-is ∙ e)
+-- a live edge is kept or missed
+pub fine-not-refused : (a b : Point) (w : Rect) → Fine a b w → isRefused (clipped a b w) ≡ false
+fine-not-refused a b w f = subst (λ (c : Clipped). isRefused c ≡ false) (fine-cut a b w f) (go (boxCut a b w (boxOf a b)))
+  where
+    go : (m : BoxCut) → isRefused (edgeAnswer a b m) ≡ false
+    go (Inside r) = unfold edgeAnswer isRefused in refl
+    go Outside = unfold edgeAnswer isRefused in refl
 
 -- ---- by the way it runs: to the left, and down
 pub runs : (a b : Point) (w : Rect) → Fine a b w → (left down n : Bool) → n ≡ unlike left down → lt (b .x) (a .x) ≡ left → lt (b .y) (a .y) ≡ down
@@ -142,25 +133,14 @@ module _ (c : Clipped) where
   ends-refused n e = rw e
 
   -- ---- and how it counts
-  count : (m : Counts) (k r : ℕ) → k ≡ (when isKept c then 1 else 0) → r ≡ (when isRefused c then 1 else 0)
-      → record { kept = m .kept + k; refused = m .refused + r } ≡ counted m c
-  count m k r ek er = rw (ek, er)
+  pub count-kept : (n : ℕ) (s : Segment) → c ≡ Kept s → n + 1 ≡ keptWith n c
+  unfolding isKept when_then_else_
+  count-kept n s e = rw e
 
-  pub count-kept : (m : Counts) (s : Segment) → c ≡ Kept s → record { kept = m .kept + 1; refused = m .refused } ≡ counted m c
-  unfolding isKept isRefused when_then_else_
-  count-kept m s e =
-      let z : m .refused ≡ m .refused + 0 = omega arith in
-      ap (λ (r : ℕ). record { kept = m .kept + 1; refused = r }) z ∙ count m 1 0 (rw e) (rw e)
+  pub count-missed : (n : ℕ) → c ≡ Missed → n ≡ keptWith n c
+  unfolding isKept when_then_else_
+  count-missed n e = rw e (omega arith)
 
-  pub count-missed : (m : Counts) → c ≡ Missed → m ≡ counted m c
-  unfolding isKept isRefused when_then_else_
-  count-missed m e =
-      let y : m .kept ≡ m .kept + 0 = omega arith in
-      let z : m .refused ≡ m .refused + 0 = omega arith in
-      ap (λ (k : ℕ). record { kept = k; refused = m .refused }) y ∙ ap (λ (r : ℕ). record { kept = m .kept + 0; refused = r }) z ∙ count m 0 0 (rw e) (rw e)
-
-  pub count-refused : (m : Counts) (n : ℕ) → c ≡ Refused n → record { kept = m .kept; refused = m .refused + 1 } ≡ counted m c
-  unfolding isKept isRefused when_then_else_
-  count-refused m n e =
-      let y : m .kept ≡ m .kept + 0 = omega arith in
-      ap (λ (k : ℕ). record { kept = k; refused = m .refused + 1 }) y ∙ count m 0 1 (rw e) (rw e)
+  pub count-refused : (n m : ℕ) → c ≡ Refused m → n ≡ keptWith n c
+  unfolding isKept when_then_else_
+  count-refused n m e = rw e (omega arith)

@@ -1,45 +1,33 @@
--- The records of a trace, written edge by edge: what is left, from the sample a and the floats from k on, stored at the
--- place `to`, gives what all would have given.
-use Prim.Native.Nat.{ℕ, suc, _+_, _-_, _*_, _/_, _%_, _≤_, _<_}
+-- The records of a trace, written edge by edge: whatever is written already, what will be there in the end stays the same.
+use Prim.Native.Nat.{ℕ, suc, _+_, _-_, _/_, _≤_, _<_}
 use native.Mathlib.Omega.{arith}
 use native.Mathlib.Numerals.{add-one}
-use mathlib.Core.Path.{_≡_, refl, sym, ap, _∙_}
-use mathlib.Core.Bool.{Bool, true}
+use mathlib.Core.Path.{_≡_, refl, sym, ap, subst, _∙_}
+use mathlib.Core.Bool.{Bool, true, false, not, Bool·not-not}
 use mathlib.Core.List.{List, [], _∷_, _++_}
-use lib.Ieee.{Float}
+use lib.Ieee.{Float, nan}
 use lib.ListN.{length, drop, getD, drop-of-length-le}
 use lib.Seq.{drop-cons}
-use Rattle.float.specs.Choice.{when_then_else_}
+use Rattle.float.specs.Choice.{when_then_else_, _and_}
+use Rattle.float.proofs.Choice.{then-is, else-is, and-both}
 use Rattle.answer.specs.Answer.{beside}
 use Rattle.buffer.specs.Bytes.{stored, placed}
+use Rattle.record.specs.Record.{recordBytes}
 use Rattle.record.proofs.Ahead.{ahead}
-use Rattle.plane.specs.Point.{at}
 use Rattle.plane.specs.declared.point.Point.{Point}
 use Rattle.plane.specs.declared.rect.Rect.{Rect}
-use Rattle.clip.specs.Answers.{clipped}
+use Rattle.clip.specs.Answers.{clipped, numberOf, pointsOf}
+use Rattle.clip.specs.Promises.{Fine}
+use Rattle.clip.specs.Refuse.{pointFine}
 use Rattle.clip.specs.declared.Clipped.{Clipped}
-use Rattle.trace.specs.Inner.{sampleOf, counted}
-use Rattle.trace.specs.declared.edge.Sample.{Sample}
-use Rattle.trace.specs.declared.edge.Counts.{Counts}
+use Rattle.clip.specs.declared.Clipped.the-variants.{Refused}
+use Rattle.trace.specs.Inner.{Admitted, keptWith, sampleOf, pastEdge, cutsLeft, Outcome, outcome, Going, Live, ToDead, Small, Next}
+use Rattle.trace.specs.declared.Progress.{Progress}
 use Rattle.trace.specs.Trace.{samplesOf, edgeCut, cutsFrom, cutsOf, traceCuts}
-use Rattle.trace.specs.Records.{cutBytes, recordsOf, isKept, isMissed, isRefused, howMany}
+use Rattle.trace.specs.Records.{noEnds, cutBytes, recordsOf, isKept, isMissed, isRefused, howMany}
 use Rattle.trace.specs.Answers.{noEdges, traceAnswer}
 use Rattle.trace.proofs.Cuts.{length-trace, length-records, no-edge, all-kinds, one-kind-most}
-
-abbrev pub cutsLeft : Rect → List Float → Point → ℕ → List Clipped
-cutsLeft w fs a k = cutsFrom true w a (samplesOf (drop k fs))
-
-pub record Writing (fs : List Float) (w : Rect) (out₀ out : List ℕ) (a : Sample) (n : Counts) (k to : ℕ) : Type 0 where
-  pub even : k % 2 ≡ 0
-  pub within : k ≤ length fs
-  pub place : to + 40 ≡ 20 * k
-  pub few : n .kept + n .refused ≤ k
-  pub same : length out ≡ length out₀
-  pub room : to + length (recordsOf (cutsLeft w fs (a .place) k)) ≤ length out
-  pub bytes : stored out to (recordsOf (cutsLeft w fs (a .place) k)) ≡ stored out₀ 0 (recordsOf (traceCuts true w fs))
-  pub kept-so : n .kept + howMany isKept (cutsLeft w fs (a .place) k) ≡ howMany isKept (traceCuts true w fs)
-  pub refused-so : n .refused + howMany isRefused (cutsLeft w fs (a .place) k) ≡ howMany isRefused (traceCuts true w fs)
-  pub a-so : a ≡ sampleOf (a .place)
+use Rattle.trace.proofs.OneEdge.{fine-edge, dead-refused, fine-not-refused}
 
 -- ---- an answer of counts
 pub counts-are : (cs : List Clipped) (k m r e : ℕ) → k ≡ howMany isKept cs → m ≡ howMany isMissed cs → r ≡ howMany isRefused cs → e ≡ length cs
@@ -60,30 +48,19 @@ none-written fs w out r h =
 pub two-samples : (fs : List Float) (w : Rect) (bytes : ℕ) → length (recordsOf (traceCuts true w fs)) ≡ bytes → 40 ≤ bytes → 4 ≤ length fs
 two-samples fs w bytes r h = omega (arith, length-trace true w fs, length-records (traceCuts true w fs))
 
--- ---- the first sample
-pub own : (p : Point) (a : Sample) → a ≡ sampleOf p → a ≡ sampleOf (a .place)
-own p a e = e ∙ ap sampleOf (sym (ap (λ (s : Sample). s .place) e))
+-- ---- before the first edge
+abbrev first : List Float → Progress
+first fs = record { a = sampleOf fs 0; k = 2; to = 0; kept = 0; refused = 0 }
 
-pub starts : (fs : List Float) (w : Rect) (out : List ℕ) (a : Sample) (d : Float) → 4 ≤ length fs
-    → length (recordsOf (traceCuts true w fs)) ≤ length out → a ≡ sampleOf (at (getD fs 0 d) (getD fs 1 d))
-    → Writing fs w out out a (record { kept = 0; refused = 0 }) 2 0
+all-left : (fs : List Float) (w : Rect) → 4 ≤ length fs → cutsLeft w fs (first fs) ≡ traceCuts true w fs
 unfolding samplesOf cutsOf
-starts [] w out a d h r e = absurd (omega arith)
-starts (x ∷ []) w out a d h r e = absurd (omega arith)
-starts (x ∷ y ∷ fs) w out a d h r e =
-    rw e
-    (record {
-      even = omega arith;
-      within = omega arith;
-      place = omega arith;
-      few = omega arith;
-      same = refl;
-      room = omega arith;
-      bytes = refl;
-      kept-so = omega arith;
-      refused-so = omega arith;
-      a-so = refl;
-    })
+all-left [] w h = absurd (omega arith)
+all-left (x ∷ []) w h = absurd (omega arith)
+all-left (x ∷ y ∷ fs) w h = refl
+
+starts : (fs : List Float) (w : Rect) (bytes : ℕ) → 4 ≤ length fs → length (recordsOf (traceCuts true w fs)) ≤ bytes → Going fs w bytes (first fs)
+starts fs w bytes h r =
+    record { even = omega arith; within = omega arith; place = omega arith; few = omega arith; room = rw (all-left fs w h) (omega arith) }
 
 -- ---- the next edge
 two-more : (fs : List Float) (k : ℕ) (d : Float) → k + 1 < length fs → drop k fs ≡ getD fs k d ∷ getD fs (k + 1) d ∷ drop (k + 2) fs
@@ -92,77 +69,231 @@ two-more fs k d h =
     let f : k + 2 ≡ suc (suc k) = omega arith in
     rw (e, f) (drop-cons fs k d (omega arith) ∙ ap (λ (l : List Float). getD fs k d ∷ l) (drop-cons fs (suc k) d (omega arith)))
 
-left-step : (w : Rect) (fs : List Float) (a b : Point) (k : ℕ) (d : Float) → k + 1 < length fs → b ≡ at (getD fs k d) (getD fs (k + 1) d)
-    → cutsLeft w fs a k ≡ clipped a b w ∷ cutsLeft w fs b (k + 2)
+left-step : (w : Rect) (fs : List Float) (p : Progress) (b : Point) (m n : ℕ) → p .k + 1 < length fs → b ≡ sampleOf fs (p .k)
+    → cutsLeft w fs p ≡ clipped (p .a) b w ∷ cutsLeft w fs (pastEdge p b m n)
 unfolding samplesOf cutsFrom edgeCut when_then_else_
-left-step w fs a b k d h e = rw (two-more fs k d h, e)
+left-step w fs p b m n h e = rw (two-more fs (p .k) nan h, e)
 
 records-step : {c : Clipped} {cs ds : List Clipped} → cs ≡ c ∷ ds → recordsOf cs ≡ cutBytes c ++ recordsOf ds
 unfolding recordsOf
 records-step e = ap recordsOf e
 
-counts-on : (is : Clipped → Bool) {c : Clipped} {cs ds : List Clipped} (j : ℕ) {m : ℕ} → cs ≡ c ∷ ds
-    → j + howMany is cs ≡ m → j + (when is c then 1 else 0) + howMany is ds ≡ m
+counts-on : (is : Clipped → Bool) {c : Clipped} {cs ds : List Clipped} (j : ℕ) → cs ≡ c ∷ ds
+    → j + (when is c then 1 else 0) + howMany is ds ≡ j + howMany is cs
 unfolding howMany
-counts-on is j e h = omega (arith, ap (howMany is) e, h)
+counts-on is j e = omega (arith, ap (howMany is) e)
 
-module _ {fs : List Float} {w : Rect} {out₀ out : List ℕ} {a : Sample} {n : Counts} {k to : ℕ}
-    (v : Writing fs w out₀ out a n k to) (even : length fs % 2 ≡ 0) where
+outcomes : {xs ys : List ℕ} {j k m n : ℕ} → xs ≡ ys → j ≡ k → m ≡ n → _≡_ {A = Outcome} (record { bytes = xs; kept = j; refused = m }) (record { bytes = ys; kept = k; refused = n })
+outcomes e f g = cc
+
+-- what an edge leaves: still such a progress, with the same outcome
+pub record Past (fs : List Float) (w : Rect) (out : List ℕ) (p : Progress) (ys : List ℕ) (q : Progress) : Type 0 where
+  pub going : Going fs w (length ys) q
+  pub same : outcome w fs ys q ≡ outcome w fs out p
+  pub long : length ys ≡ length out
+  pub on : p .k < q .k
+
+module _ (out : List ℕ) {fs : List Float} {w : Rect} {p : Progress} (g : Going fs w (length out) p) (t : Admitted fs w (length out)) where
   -- where the records have as many bytes as are lent, a place in them is one of a sample
-  module _ (exact : length (recordsOf (traceCuts true w fs)) ≡ length out₀) (room : 40 ≤ length out₀) where
-    pub next : to ≤ length out - 40 → k + 1 < length fs
-    next h = omega (arith, v .place, v .same, even, length-trace true w fs, length-records (traceCuts true w fs))
+  pub next : 40 ≤ length out → p .to ≤ length out - 40 → p .k + 1 < length fs
+  next r h = omega (arith, g .place, t .even, t .room, length-trace true w fs, length-records (traceCuts true w fs))
 
-    pub last : length out - 40 < to → length fs ≤ k
-    last h = omega (arith, v .place, v .same, v .even, even, length-trace true w fs, length-records (traceCuts true w fs))
+  pub last : 40 ≤ length out → length out - 40 < p .to → length fs ≤ p .k
+  last r h = omega (arith, g .place, g .even, t .even, t .room, length-trace true w fs, length-records (traceCuts true w fs))
 
-  pub goes-on : (b : Sample) (d : Float) (ys : List ℕ) (m : Counts) → k + 1 < length fs
-      → b ≡ sampleOf (at (getD fs k d) (getD fs (k + 1) d))
-      → m ≡ counted n (clipped (a .place) (b .place) w) → ys ≡ placed out to (cutBytes (clipped (a .place) (b .place) w))
-      → Writing fs w out₀ ys b m (k + 2) (to + 40)
-  goes-on b d ys m l eb m-is ys-is =
-      let c = clipped (a .place) (b .place) w in
-      let s = left-step w fs (a .place) (b .place) k d l (ap (λ (t : Sample). t .place) eb) in
-      let t = ahead out ys to _ 0 _ (recordsOf (cutsLeft w fs (b .place) (k + 2))) (recordsOf (cutsLeft w fs (a .place) k)) (records-step s) (v .room) ys-is in
-      rw m-is
-      (record {
-        even = omega (arith, v .even);
-        within = omega arith;
-        place = omega (arith, v .place);
-        few = omega (arith, one-kind-most c, v .few);
-        same = t .long ∙ v .same;
-        room = t .room;
-        bytes = t .same ∙ v .bytes;
-        kept-so = counts-on isKept (n .kept) s (v .kept-so);
-        refused-so = counts-on isRefused (n .refused) s (v .refused-so);
-        a-so = own _ b eb;
-      })
+  pub small : Small p
+  small = record { k = omega (arith, g .within, t .few); to = omega (arith, g .place, g .within, t .few); refused = omega (arith, g .few, g .within, t .few) }
+
+  goes-on : (b : Point) (m n : ℕ) (ys : List ℕ) → p .k + 1 < length fs → b ≡ sampleOf fs (p .k)
+      → m ≡ keptWith (p .kept) (clipped (p .a) b w) → n ≡ p .refused + (when isRefused (clipped (p .a) b w) then 1 else 0)
+      → ys ≡ placed out (p .to) (cutBytes (clipped (p .a) b w)) → Past fs w out p ys (pastEdge p b m n)
+  goes-on b m n ys l eb em en ey =
+      let c = clipped (p .a) b w in
+      let q = pastEdge p b m n in
+      let s = left-step w fs p b m n l eb in
+      let h = ahead out ys (p .to) _ 0 _ (recordsOf (cutsLeft w fs q)) (recordsOf (cutsLeft w fs p)) (records-step s) (g .room) ey in
+      record {
+        going =
+            record {
+              even = omega (arith, g .even);
+              within = omega arith;
+              place = omega (arith, g .place);
+              few = omega (arith, one-kind-most c, g .few, em, en);
+              room = h .room;
+            };
+        same =
+            outcomes (h .same)
+            (ap (_+ howMany isKept (cutsLeft w fs q)) em ∙ counts-on isKept (p .kept) s)
+            (ap (_+ howMany isRefused (cutsLeft w fs q)) en ∙ counts-on isRefused (p .refused) s);
+        long = h .long;
+        on = omega arith;
+      }
+
+  -- a live edge is not refused
+  pub past-live : Fine (p .a) (sampleOf fs (p .k)) w → (b : Point) (m : ℕ) (ys : List ℕ) → p .k + 1 < length fs → b ≡ sampleOf fs (p .k)
+      → m ≡ keptWith (p .kept) (clipped (p .a) b w) → ys ≡ placed out (p .to) (cutBytes (clipped (p .a) b w)) → Past fs w out p ys (pastEdge p b m (p .refused))
+  past-live f b m ys l eb em ey = goes-on b m (p .refused) ys l eb em (none (clipped (p .a) b w) (fine-not-refused (p .a) b w (subst (λ (x : Point). Fine (p .a) x w) (sym eb) f))) ey
+    where
+      none : (c : Clipped) → isRefused c ≡ false → p .refused ≡ p .refused + (when isRefused c then 1 else 0)
+      none c e = unfold when_then_else_ in rw e (omega arith)
+
+  -- a dead one is, with 2
+  pub past-dead : (pointFine (p .a) and pointFine (sampleOf fs (p .k))) ≡ false → (ys : List ℕ) → p .k + 1 < length fs
+      → ys ≡ placed out (p .to) (recordBytes 2 0 noEnds) → Past fs w out p ys (pastEdge p (sampleOf fs (p .k)) (p .kept) (p .refused + 1))
+  past-dead d ys l ey =
+      let b = sampleOf fs (p .k) in
+      go (clipped (p .a) b w) (dead-refused (p .a) b w d) (goes-on b (p .kept) (p .refused + 1) ys l refl)
+    where
+      go : (c : Clipped) → Refused 2 ≡ c
+          → (p .kept ≡ keptWith (p .kept) c → p .refused + 1 ≡ p .refused + (when isRefused c then 1 else 0) → ys ≡ placed out (p .to) (cutBytes c) → Past fs w out p ys (pastEdge p (sampleOf fs (p .k)) (p .kept) (p .refused + 1)))
+          → Past fs w out p ys (pastEdge p (sampleOf fs (p .k)) (p .kept) (p .refused + 1))
+      go c e k = unfold isKept isRefused numberOf pointsOf when_then_else_ in (rw (sym e) at k) (omega arith) refl ey
 
   -- ---- no edge is left
-  module _ (h : length fs ≤ k) where
-    none-left : cutsLeft w fs (a .place) k ≡ []
+  module _ (out₀ : List ℕ) (e : outcome w fs out p ≡ outcome w fs out₀ (first fs)) (some : 4 ≤ length fs) (h : length fs ≤ p .k) where
+    none-left : cutsLeft w fs p ≡ []
     unfolding samplesOf cutsFrom
     none-left = rw (drop-of-length-le fs h)
 
-    pub all-written : out ≡ stored out₀ 0 (recordsOf (traceCuts true w fs))
-    unfolding stored recordsOf
-    all-written = sym (ap (λ (cs : List Clipped). stored out to (recordsOf cs)) none-left) ∙ v .bytes
+    -- what is left of the one side is nothing, and of the other all
+    ended : outcome w fs out p ≡ record { bytes = out; kept = p .kept + 0; refused = p .refused + 0 }
+    unfolding stored recordsOf howMany
+    ended = ap (λ (cs : List Clipped). record { bytes = stored out (p .to) (recordsOf cs); kept = p .kept + howMany isKept cs; refused = p .refused + howMany isRefused cs }) none-left
 
-    kept-all : n .kept ≡ howMany isKept (traceCuts true w fs)
-    unfolding howMany
-    kept-all = omega (arith, ap (howMany isKept) none-left, v .kept-so)
+    whole : outcome w fs out₀ (first fs) ≡ record { bytes = stored out₀ 0 (recordsOf (traceCuts true w fs)); kept = 0 + howMany isKept (traceCuts true w fs); refused = 0 + howMany isRefused (traceCuts true w fs) }
+    whole = ap (λ (cs : List Clipped). record { bytes = stored out₀ 0 (recordsOf cs); kept = 0 + howMany isKept cs; refused = 0 + howMany isRefused cs }) (all-left fs w some)
 
-    refused-all : n .refused ≡ howMany isRefused (traceCuts true w fs)
-    unfolding howMany
-    refused-all = omega (arith, ap (howMany isRefused) none-left, v .refused-so)
+    all-written : out ≡ stored out₀ 0 (recordsOf (traceCuts true w fs))
+    all-written = ap (λ (o : Outcome). o .bytes) (sym ended ∙ e ∙ whole)
 
-    pub no-more : n .kept + n .refused ≤ length fs / 2 - 1
+    kept-all : p .kept ≡ howMany isKept (traceCuts true w fs)
+    kept-all = omega (arith, ap (λ (o : Outcome). o .kept) (sym ended ∙ e ∙ whole))
+
+    refused-all : p .refused ≡ howMany isRefused (traceCuts true w fs)
+    refused-all = omega (arith, ap (λ (o : Outcome). o .refused) (sym ended ∙ e ∙ whole))
+
+    no-more : p .kept + p .refused ≤ length fs / 2 - 1
     no-more = omega (arith, kept-all, refused-all, all-kinds (traceCuts true w fs), length-trace true w fs)
 
-    pub all-counted : (edges : ℕ) → edges ≡ length fs / 2 - 1
-        → record { number = 0; kept = n .kept; missed = edges - n .kept - n .refused; refused = n .refused; edges = edges } ≡ traceAnswer 0 (traceCuts true w fs)
-    all-counted edges e =
+    all-counted : (edges : ℕ) → edges ≡ length fs / 2 - 1
+        → record { number = 0; kept = p .kept; missed = edges - p .kept - p .refused; refused = p .refused; edges = edges } ≡ traceAnswer 0 (traceCuts true w fs)
+    all-counted edges d =
         let cs = traceCuts true w fs in
-        let l : edges ≡ length cs = e ∙ sym (length-trace true w fs) in
-        let m : edges - n .kept - n .refused ≡ howMany isMissed cs = omega (arith, kept-all, refused-all, all-kinds cs, l) in
+        let l : edges ≡ length cs = d ∙ sym (length-trace true w fs) in
+        let m : edges - p .kept - p .refused ≡ howMany isMissed cs = omega (arith, kept-all, refused-all, all-kinds cs, l) in
         counts-are cs _ _ _ _ kept-all m refused-all l
+
+-- ---- from the first edge on, live or not
+pub record Written (fs : List Float) (w : Rect) (out₀ out : List ℕ) (p : Progress) : Type 0 where
+  pub going : Going fs w (length out) p
+  pub same : outcome w fs out p ≡ outcome w fs out₀ (first fs)
+  pub long : length out ≡ length out₀
+
+module _ {fs : List Float} {w : Rect} {out₀ out : List ℕ} {p : Progress} (t : Admitted fs w (length out₀)) (s : 40 ≤ length out₀) (v : Written fs w out₀ out p) where
+  here-too : Admitted fs w (length out)
+  here-too = subst (Admitted fs w) (sym (v .long)) t
+
+  pub room-too : 40 ≤ length out
+  room-too = omega (arith, s, v .long)
+
+  pub written-next : p .to ≤ length out - 40 → Next (length fs) p
+  written-next h = record { small = small out (v .going) here-too; more = next out (v .going) here-too room-too h }
+
+  pub written-live : p .to ≤ length out - 40 → pointFine (p .a) ≡ true → Live fs w (length out) p
+  written-live h l = record { trace = here-too; going = v .going; some = room-too; more = h; live = l }
+
+  -- where no edge is left
+  module _ (h : length out - 40 < p .to) where
+    over : length fs ≤ p .k
+    over = last out (v .going) here-too room-too h
+
+    two : 4 ≤ length fs
+    two = two-samples fs w (length out₀) (t .room) s
+
+    pub no-more-than : p .kept + p .refused ≤ length fs / 2 - 1
+    no-more-than = no-more out (v .going) here-too out₀ (v .same) two over
+
+    pub counts-all : (edges : ℕ) → edges ≡ length fs / 2 - 1
+        → record { number = 0; kept = p .kept; missed = edges - p .kept - p .refused; refused = p .refused; edges = edges } ≡ traceAnswer 0 (traceCuts true w fs)
+    counts-all = all-counted out (v .going) here-too out₀ (v .same) two over
+
+    pub writes-all : out ≡ stored out₀ 0 (recordsOf (traceCuts true w fs))
+    writes-all = all-written out (v .going) here-too out₀ (v .same) two over
+
+pub begins : (fs : List Float) (w : Rect) (out : List ℕ) → Admitted fs w (length out) → 40 ≤ length out → (a : Point) → a ≡ sampleOf fs 0
+    → Written fs w out out (record { a = a; k = 2; to = 0; kept = 0; refused = 0 })
+begins fs w out t s a e = rw e (record { going = starts fs w (length out) (two-samples fs w (length out) (t .room) s) (omega (arith, t .room)); same = refl; long = refl })
+
+-- between the live edges from the float k on and the dead one after them
+pub record Halted (fs : List Float) (w : Rect) (out₀ : List ℕ) (k : ℕ) (out : List ℕ) (p : Progress) : Type 0 where
+  pub written : Written fs w out₀ out p
+  pub dead : p .to ≤ length out - 40 → pointFine (p .a) ≡ false
+  pub not-back : k ≤ p .k
+  pub further : length out - 40 < p .to → k < p .k
+
+pub after-live : {fs : List Float} {w : Rect} {out₀ out ys : List ℕ} {p q : Progress} → Written fs w out₀ out p → ToDead fs w out p ys q → Halted fs w out₀ (p .k) ys q
+after-live v t =
+    record { written = record { going = t .going; same = t .same ∙ v .same; long = t .long ∙ v .long }; dead = t .dead; not-back = omega (arith, t .further); further = λ z. t .further }
+
+pub at-dead : {fs : List Float} {w : Rect} {out₀ out : List ℕ} {p : Progress} → Written fs w out₀ out p → p .to ≤ length out - 40 → pointFine (p .a) ≡ false → Halted fs w out₀ (p .k) out p
+at-dead v h d = record { written = v; dead = λ z. d; not-back = omega arith; further = λ z. absurd (omega arith) }
+
+module _ {fs : List Float} {w : Rect} {out₀ out : List ℕ} {p : Progress} {k : ℕ} (t : Admitted fs w (length out₀)) (s : 40 ≤ length out₀) (v : Halted fs w out₀ k out p) where
+  pub from-dead : p .to ≤ length out - 40 → (ys : List ℕ) → ys ≡ placed out (p .to) (recordBytes 2 0 noEnds)
+      → (q : Progress) → q ≡ pastEdge p (sampleOf fs (p .k)) (p .kept) (p .refused + 1) → Written fs w out₀ ys q × (length fs - q .k < length fs - k)
+  from-dead h ys ey q eq =
+      let o = v .written in
+      let l = written-next t s o h .more in
+      let e = past-dead out (o .going) (subst (Admitted fs w) (sym (o .long)) t) (sym (else-is _ _ _ _ (v .dead h) refl)) ys l ey in
+      rw eq (record { going = e .going; same = e .same ∙ o .same; long = e .long ∙ o .long }, omega (arith, v .not-back, e .on))
+
+  pub none-further : length out - 40 < p .to → length fs - p .k < length fs - k
+  none-further h = omega (arith, v .further h, v .written .going .within)
+
+-- what a test for the opposite says
+pub unsaid : {b t : Bool} → not b ≡ t → b ≡ not t
+unsaid {b} e = sym (Bool·not-not b) ∙ ap not e
+
+-- ---- along live samples: each start is live, and the outcome is still that of the first of them
+pub record Onward (fs : List Float) (w : Rect) (out₀ : List ℕ) (from : Progress) (out : List ℕ) (p : Progress) : Type 0 where
+  pub going : Going fs w (length out) p
+  pub live : pointFine (p .a) ≡ true
+  pub same : outcome w fs out p ≡ outcome w fs out₀ from
+  pub long : length out ≡ length out₀
+  pub not-back : from .k ≤ p .k
+
+pub sets-out : {fs : List Float} {w : Rect} {p : Progress} (out : List ℕ) → Live fs w (length out) p → Onward fs w out p out p
+sets-out out v = record { going = v .going; live = v .live; same = refl; long = refl; not-back = omega arith }
+
+module _ {fs : List Float} {w : Rect} {out₀ : List ℕ} {from : Progress} {out : List ℕ} {p : Progress} (v : Live fs w (length out₀) from) (o : Onward fs w out₀ from out p) where
+  here : Admitted fs w (length out)
+  here = subst (Admitted fs w) (sym (o .long)) (v .trace)
+
+  pub some-room : 40 ≤ length out
+  some-room = omega (arith, v .some, o .long)
+
+  pub edge-next : p .to ≤ length out - 40 → Next (length fs) p
+  edge-next h = record { small = small out (o .going) here; more = next out (o .going) here some-room h }
+
+  pub edge-fine : (b : Point) → pointFine b ≡ true → Fine (p .a) b w
+  edge-fine b e = fine-edge (p .a) b w (v .trace .fine) (and-both _ _ (o .live) e)
+
+  -- to a live sample
+  pub onward : p .to ≤ length out - 40 → (b : Point) → b ≡ sampleOf fs (p .k) → pointFine b ≡ true
+      → (m : ℕ) → m ≡ keptWith (p .kept) (clipped (p .a) b w) → (ys : List ℕ) → ys ≡ placed out (p .to) (cutBytes (clipped (p .a) b w))
+      → (q : Progress) → q ≡ pastEdge p b m (p .refused) → Onward fs w out₀ from ys q × (length fs - q .k < length fs - p .k)
+  onward h b eb lb m em ys ey q eq =
+      let l = edge-next h .more in
+      let t = past-live out (o .going) here (subst (λ (x : Point). Fine (p .a) x w) eb (edge-fine b lb)) b m ys l eb em ey in
+      rw eq (record { going = t .going; live = lb; same = t .same ∙ o .same; long = t .long ∙ o .long; not-back = omega (arith, o .not-back, t .on) }, omega arith)
+
+  -- to a dead one, or with no edge left
+  pub to-dead : p .to ≤ length out - 40 → pointFine (sampleOf fs (p .k)) ≡ false → (ys : List ℕ) → ys ≡ placed out (p .to) (recordBytes 2 0 noEnds)
+      → (q : Progress) → q ≡ pastEdge p (sampleOf fs (p .k)) (p .kept) (p .refused + 1) → ToDead fs w out₀ from ys q
+  to-dead h d ys ey q eq =
+      let t = past-dead out (o .going) here (sym (then-is _ _ _ _ (o .live) (sym d))) ys (edge-next h .more) ey in
+      rw eq (record { going = t .going; further = omega (arith, o .not-back, t .on); dead = λ z. d; same = t .same ∙ o .same; long = t .long ∙ o .long })
+
+  pub to-end : length out - 40 < p .to → ToDead fs w out₀ from out p
+  to-end h =
+      record { going = o .going; further = omega (arith, v .more, o .long, v .going .place, o .going .place); dead = λ z. absurd (omega arith); same = o .same; long = o .long }

@@ -1,5 +1,6 @@
 //! Cutting an edge to a window; a line on a face of the cube, by its normal in the face's u, v, w; the walk from face
-//! to face. "Refused with" names refusals in the order in which they are tried.
+//! to face. "Refused with" names refusals in the order in which they are tried. Cutting admits floats up to 2^500 in
+//! magnitude: one beyond it is refused as one that is not finite.
 
 use crate::ffi::{self, Pair};
 use crate::r1::interval::Interval;
@@ -47,7 +48,8 @@ pub fn update_endpoint(bound: Interval, high_endpoint: bool, value: f64) -> Resu
     ffi::umb_update_endpoint(bound, high_endpoint, value)
 }
 
-/// The value at x on the line through (a, a1) and (b, b1). Refused with NotFinite.
+/// The value at x on the line through (a, a1) and (b, b1): no NaN, but beyond a and b it may be infinite. Refused with
+/// NotFinite.
 pub fn interpolate(x: f64, a: f64, b: f64, a1: f64, b1: f64) -> Result<f64, Refusal> {
     ffi::umb_interpolate(x, a, b, a1, b1)
 }

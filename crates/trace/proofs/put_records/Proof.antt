@@ -1,18 +1,19 @@
 -- `put_records` stores the records of the edges, and counts the edges.
 use Prim.Native.Nat.{_-_}
-use mathlib.Core.Path.{_∙_}
+use mathlib.Core.Path.{sym, _∙_}
+use mathlib.Core.Logic.{⊎-elim}
 use native.Mathlib.Omega.{arith}
 use lib.ListN.{length}
-use Rattle.trace.proofs.Writing.{Writing, none-written, two-samples, own, starts, next, last, goes-on, all-written, no-more, all-counted}
+use Rattle.trace.proofs.Writing.{Written, Halted, none-written, two-samples, begins, room-too, written-next, written-live, after-live, at-dead, from-dead, none-further, no-more-than, counts-all, writes-all}
 use borrow.Author.Needs.{needs}
 use Rattle.trace.proofs.put_records.Statement.{statement}
 use Rattle.trace.proofs.put_records.Tie as tie
 
 abbrev Inv-loop : tie.InvT-loop
-Inv-loop samples window out₀ a₀ counts₀ k₀ to₀ out a counts k to = Writing samples window out₀ out a counts k to
+Inv-loop samples window out₀ at₀ out at = Written samples window out₀ out at
 
 abbrev μ-loop : tie.MeasureT-loop
-μ-loop samples window out₀ a₀ counts₀ k₀ to₀ out a counts k to = length samples - k
+μ-loop samples window out₀ at₀ out at = length samples - at .k
 
 no-edges-requires : tie.Need-no-edges-requires Inv-loop μ-loop
 no-edges-requires c κs = search needs
@@ -23,123 +24,62 @@ returns c =
     let (r, b) = none-written (p .args .samples .now) (p .args .window) _ (p .pre .room) (c .before .if1 .taken) in
     (c .no-edges .ensures ∙ r, b)
 
-shared-slice-read-sample-at : tie.Need-shared-slice-read-sample-at Inv-loop μ-loop
-shared-slice-read-sample-at c = let p = c .before .before .before .before in omega (arith, two-samples (p .args .samples .now) (p .args .window) _ (p .pre .room) (c .before .if1 .left))
-
-shared-slice-read-sample-at-2 : tie.Need-shared-slice-read-sample-at-2 Inv-loop μ-loop
-shared-slice-read-sample-at-2 c = let p = c .before .before .before .before .before in omega (arith, two-samples (p .args .samples .now) (p .args .window) _ (p .pre .room) (c .before .before .if1 .left))
-
 sample-at-requires : tie.Need-sample-at-requires Inv-loop μ-loop
-sample-at-requires c κs = search needs
+sample-at-requires c κs = let p = c .before .before .before in (omega (arith, two-samples (p .args .samples .now) (p .args .window) _ (p .pre .room) (c .if1 .left)), omega arith)
 
 loop-holds : tie.Need-loop-holds Inv-loop μ-loop
-loop-holds c =
-    let p = c .before .before .before .before .before .before in
-    let h = p .pre .room in
-    starts (p .args .samples .now) (p .args .window) _ _ _ (two-samples (p .args .samples .now) (p .args .window) _ h (c .before .before .before .if1 .left)) (omega arith) (c .sample-at .ensures)
+loop-holds c = begins _ _ _ (c .before .before .before .before .pre) (c .before .if1 .left) _ (c .sample-at .ensures)
 
-sub-loop : tie.Need-sub-loop Inv-loop μ-loop
-sub-loop c = let h = c .before .before .before .before .if1 .left in omega (arith, c .loop .inv .same)
+sub-if2 : tie.Need-sub-if2 Inv-loop μ-loop
+sub-if2 c = room-too (c .before .before .before .before .before .pre) (c .before .before .if1 .left) (c .loop .inv)
 
-mul-sample-at : tie.Need-mul-sample-at Inv-loop μ-loop
-mul-sample-at c =
-    let v = c .before .loop .inv in
-    let p = c .before .before .before .before .before .before .before .before .pre in
-    let l = next v (p .even) (p .room) (c .before .before .before .before .before .if1 .left) (c .loop-test .taken) in
-    omega (arith, p .few)
+point-fine-requires : tie.Need-point-fine-requires Inv-loop μ-loop
+point-fine-requires c κs = search needs
 
-shared-slice-read-sample-at-3 : tie.Need-shared-slice-read-sample-at-3 Inv-loop μ-loop
-shared-slice-read-sample-at-3 c =
-    let v = c .before .before .loop .inv in
-    let p = c .before .before .before .before .before .before .before .before .before .pre in
-    let l = next v (p .even) (p .room) (c .before .before .before .before .before .before .if1 .left) (c .before .loop-test .taken) in
-    omega arith
+put-live-requires : tie.Need-put-live-requires Inv-loop μ-loop
+put-live-requires c κs = written-live (c .before .before .before .before .before .before .before .before .before .before .pre) (c .before .before .before .before .before .before .before .if1 .left) (c .before .before .before .before .before .loop .inv) (c .before .before .before .if2 .taken) (sym (c .before .before .point-fine .ensures) ∙ c .before .if3 .taken)
 
-add-sample-at : tie.Need-add-sample-at Inv-loop μ-loop
-add-sample-at c =
-    let v = c .before .before .loop .inv in
-    let p = c .before .before .before .before .before .before .before .before .before .pre in
-    let l = next v (p .even) (p .room) (c .before .before .before .before .before .before .if1 .left) (c .before .loop-test .taken) in
-    omega (arith, p .few)
+-- where live edges and the dead one meet
+halted : (c : tie.Joined3 Inv-loop μ-loop) → Halted (c .before .before .before .before .before .before .before .before .before .args .samples .now) (c .before .before .before .before .before .before .before .before .before .args .window) (c .before .before .before .before .before .before .before .before .before .args .out .now) (c .before .before .before .before .loop .at .k) (c .if3 .out) (c .if3 .at)
+halted c =
+    let v = c .before .before .before .before .loop .inv in
+    ⊎-elim
+    (λ w. rw (w .5, w .6) (after-live v (w .2 .ensures)))
+    (λ w. rw (w .1, w .2) (at-dead v (c .before .before .if2 .taken) (sym (c .before .point-fine .ensures) ∙ w .0 .left)))
+    (c .if3 .came)
 
-mul-sample-at-2 : tie.Need-mul-sample-at-2 Inv-loop μ-loop
-mul-sample-at-2 c =
-    let v = c .before .before .loop .inv in
-    let p = c .before .before .before .before .before .before .before .before .before .pre in
-    let l = next v (p .even) (p .room) (c .before .before .before .before .before .before .if1 .left) (c .before .loop-test .taken) in
-    omega (arith, p .few)
+sub-if4 : tie.Need-sub-if4 Inv-loop μ-loop
+sub-if4 c = room-too (c .before .before .before .before .before .before .before .before .before .pre) (c .before .before .before .before .before .before .if1 .left) (halted c .written)
 
-shared-slice-read-sample-at-4 : tie.Need-shared-slice-read-sample-at-4 Inv-loop μ-loop
-shared-slice-read-sample-at-4 c =
-    let v = c .before .before .before .loop .inv in
-    let p = c .before .before .before .before .before .before .before .before .before .before .pre in
-    let l = next v (p .even) (p .room) (c .before .before .before .before .before .before .before .if1 .left) (c .before .before .loop-test .taken) in
-    omega arith
-
-sample-at-requires-2 : tie.Need-sample-at-requires-2 Inv-loop μ-loop
-sample-at-requires-2 c κs = search needs
-
-put-edge-requires : tie.Need-put-edge-requires Inv-loop μ-loop
-put-edge-requires c κs =
-    let v = c .before .before .before .before .before .loop .inv in
-    let p = c .before .before .before .before .before .before .before .before .before .before .before .before .pre in
-    (record { fine = p .fine; a-so = v .a-so; b-so = own _ _ (c .before .sample-at2 .ensures) }, omega (arith, v .few, v .within, p .few))
-
-add-k : tie.Need-add-k Inv-loop μ-loop
-add-k c =
-    let v = c .before .before .before .before .before .before .before .before .loop .inv in
-    let p = c .before .before .before .before .before .before .before .before .before .before .before .before .before .before .before .pre in
-    let l = next v (p .even) (p .room) (c .before .before .before .before .before .before .before .before .before .before .before .before .if1 .left) (c .before .before .before .before .before .before .before .loop-test .taken) in
-    omega (arith, p .few)
-
-add-to : tie.Need-add-to Inv-loop μ-loop
-add-to c =
-    let v = c .before .before .before .before .before .before .before .before .loop .inv in
-    let p = c .before .before .before .before .before .before .before .before .before .before .before .before .before .before .before .pre in
-    let l = next v (p .even) (p .room) (c .before .before .before .before .before .before .before .before .before .before .before .before .if1 .left) (c .before .before .before .before .before .before .before .loop-test .taken) in
-    omega (arith, p .few, v .place)
+put-dead-requires : tie.Need-put-dead-requires Inv-loop μ-loop
+put-dead-requires c κs = let j = c .before .before .before in written-next (j .before .before .before .before .before .before .before .before .before .pre) (j .before .before .before .before .before .before .if1 .left) (halted j .written) (c .before .if4 .taken)
 
 loop-less : tie.Need-loop-less Inv-loop μ-loop
-loop-less c =
-    let v = c .before .before .before .before .before .before .before .before .loop .inv in
-    let p = c .before .before .before .before .before .before .before .before .before .before .before .before .before .before .before .pre in
-    let l = next v (p .even) (p .room) (c .before .before .before .before .before .before .before .before .before .before .before .before .if1 .left) (c .before .before .before .before .before .before .before .loop-test .taken) in
-    omega arith
+loop-less c = let j = c .before .before .before .before .before .before in from-dead (j .before .before .before .before .before .before .before .before .before .pre) (j .before .before .before .before .before .before .if1 .left) (halted j) (c .before .before .before .before .if4 .taken) _ (c .before .before .put-dead .ensures .1) _ (c .before .before .put-dead .ensures .0) .1
 
 loop-again : tie.Need-loop-again Inv-loop μ-loop
-loop-again c =
-    let v = c .before .before .before .before .before .before .before .before .loop .inv in
-    let p = c .before .before .before .before .before .before .before .before .before .before .before .before .before .before .before .pre in
-    let l = next v (p .even) (p .room) (c .before .before .before .before .before .before .before .before .before .before .before .before .if1 .left) (c .before .before .before .before .before .before .before .loop-test .taken) in
-    let e = c .before .before .put-edge .ensures in
-    goes-on v (p .even) _ _ _ _ l (c .before .before .before .before .sample-at2 .ensures) (e .0) (e .1)
+loop-again c = let j = c .before .before .before .before .before .before in from-dead (j .before .before .before .before .before .before .before .before .before .pre) (j .before .before .before .before .before .before .if1 .left) (halted j) (c .before .before .before .before .if4 .taken) _ (c .before .before .put-dead .ensures .1) _ (c .before .before .put-dead .ensures .0) .0
+
+loop-less-2 : tie.Need-loop-less-2 Inv-loop μ-loop
+loop-less-2 c = let j = c .before .before in none-further (j .before .before .before .before .before .before .before .before .before .pre) (j .before .before .before .before .before .before .if1 .left) (halted j) (c .if4 .left)
+
+loop-again-2 : tie.Need-loop-again-2 Inv-loop μ-loop
+loop-again-2 c = halted (c .before .before) .written
 
 edge-count-requires : tie.Need-edge-count-requires Inv-loop μ-loop
 edge-count-requires c κs = search needs
 
-sub-t10 : tie.Need-sub-t10 Inv-loop μ-loop
-sub-t10 c =
-    let v = c .before .before .before .loop .inv in
-    let p = c .before .before .before .before .before .before .before .before .before .before .pre in
-    let l = last v (p .even) (p .room) (c .before .before .before .before .before .before .before .if1 .left) (c .before .before .loop-test .left) in
-    omega (arith, no-more v (p .even) l, c .before .edge-count .ensures)
+sub-t6 : tie.Need-sub-t6 Inv-loop μ-loop
+sub-t6 c = omega (arith, no-more-than (c .before .before .before .before .before .before .before .before .before .pre) (c .before .before .before .before .before .before .if1 .left) (c .before .before .before .before .loop .inv) (c .before .before .if2 .left), c .before .edge-count .ensures)
 
-sub-t26 : tie.Need-sub-t26 Inv-loop μ-loop
-sub-t26 c =
-    let v = c .before .before .before .before .loop .inv in
-    let p = c .before .before .before .before .before .before .before .before .before .before .before .pre in
-    let l = last v (p .even) (p .room) (c .before .before .before .before .before .before .before .before .if1 .left) (c .before .before .before .loop-test .left) in
-    omega (arith, no-more v (p .even) l, c .before .before .edge-count .ensures)
+sub-t17 : tie.Need-sub-t17 Inv-loop μ-loop
+sub-t17 c = omega (arith, no-more-than (c .before .before .before .before .before .before .before .before .before .before .pre) (c .before .before .before .before .before .before .before .if1 .left) (c .before .before .before .before .before .loop .inv) (c .before .before .before .if2 .left), c .before .before .edge-count .ensures)
 
 same-length : tie.Need-same-length Inv-loop μ-loop
-same-length c = c .before .before .before .before .loop .inv .same
+same-length c = c .before .before .before .before .before .loop .inv .long
 
 returns-2 : tie.Need-returns-2 Inv-loop μ-loop
-returns-2 c =
-    let v = c .before .before .before .before .loop .inv in
-    let p = c .before .before .before .before .before .before .before .before .before .before .before .pre in
-    let l = last v (p .even) (p .room) (c .before .before .before .before .before .before .before .before .if1 .left) (c .before .before .before .loop-test .left) in
-    (all-counted v (p .even) l _ (c .before .before .edge-count .ensures), all-written v (p .even) l)
+returns-2 c = (counts-all (c .before .before .before .before .before .before .before .before .before .before .pre) (c .before .before .before .before .before .before .before .if1 .left) (c .before .before .before .before .before .loop .inv) (c .before .before .before .if2 .left) _ (c .before .before .edge-count .ensures), writes-all (c .before .before .before .before .before .before .before .before .before .before .pre) (c .before .before .before .before .before .before .before .if1 .left) (c .before .before .before .before .before .loop .inv) (c .before .before .before .if2 .left))
 
 pub put-records-spec : {M : Type 1} → statement M
 put-records-spec =
@@ -149,24 +89,19 @@ put-records-spec =
     μ-loop
     no-edges-requires
     returns
-    shared-slice-read-sample-at
-    shared-slice-read-sample-at-2
     sample-at-requires
     loop-holds
-    sub-loop
-    mul-sample-at
-    shared-slice-read-sample-at-3
-    add-sample-at
-    mul-sample-at-2
-    shared-slice-read-sample-at-4
-    sample-at-requires-2
-    put-edge-requires
-    add-k
-    add-to
+    sub-if2
+    point-fine-requires
+    put-live-requires
+    sub-if4
+    put-dead-requires
     loop-less
     loop-again
+    loop-less-2
+    loop-again-2
     edge-count-requires
-    sub-t10
-    sub-t26
+    sub-t6
+    sub-t17
     same-length
     returns-2)

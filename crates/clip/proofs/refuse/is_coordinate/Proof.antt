@@ -1,15 +1,16 @@
--- A coordinate is admitted where it is finite.
+-- `is_coordinate` makes the comparison that the definition has.
 use Rattle.clip.specs.Refuse.{coordinate}
+use lib.Ieee.{ofBits}
 use borrow.Author.Needs.{needs}
 use Rattle.clip.proofs.refuse.is_coordinate.Statement.{statement}
 use Rattle.clip.proofs.refuse.is_coordinate.Tie as tie
 
-is-finite-requires : tie.Need-is-finite-requires
-is-finite-requires c κs = search needs
+magnitude-requires : tie.Need-magnitude-requires
+magnitude-requires c κs = search needs
 
 returns : tie.Need-returns
-unfolding coordinate
-returns c = search needs
+unfolding coordinate ofBits
+returns c = cc
 
 pub is-coordinate-spec : {M : Type 1} → statement M
-is-coordinate-spec = tie.close (tie.spec is-finite-requires returns)
+is-coordinate-spec = tie.close (tie.spec magnitude-requires returns)

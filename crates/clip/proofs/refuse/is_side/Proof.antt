@@ -1,15 +1,16 @@
--- A side is admitted where it is finite.
+-- `is_side` makes the comparison that the definition has.
 use Rattle.clip.specs.Refuse.{side}
+use lib.Ieee.{ofBits}
 use borrow.Author.Needs.{needs}
 use Rattle.clip.proofs.refuse.is_side.Statement.{statement}
 use Rattle.clip.proofs.refuse.is_side.Tie as tie
 
-is-finite-requires : tie.Need-is-finite-requires
-is-finite-requires c κs = search needs
+magnitude-requires : tie.Need-magnitude-requires
+magnitude-requires c κs = search needs
 
 returns : tie.Need-returns
-unfolding side
-returns c = search needs
+unfolding side ofBits
+returns c = cc
 
 pub is-side-spec : {M : Type 1} → statement M
-is-side-spec = tie.close (tie.spec is-finite-requires returns)
+is-side-spec = tie.close (tie.spec magnitude-requires returns)

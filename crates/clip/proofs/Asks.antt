@@ -1,0 +1,147 @@
+-- The values that a cut asks for. What holds of every one holds by the sides that it asks at; from the edge's own box those lie in that box, since what is left of it stays a part of it.
+use mathlib.Core.Path.{_≡_, refl, ap}
+use mathlib.Core.Bool.{Bool, true, false, not}
+use mathlib.Core.List.{List, [], _∷_, _++_, append-assoc}
+use lib.Ieee.{Float, unlike}
+use Rattle.float.specs.Choice.{when_then_else_}
+use Rattle.float.proofs.Choice.{cases, and-parts, and-both}
+use Rattle.plane.specs.Interval.{between, endOf}
+use Rattle.plane.specs.Rect.{boxOf}
+use Rattle.plane.specs.Within.{In, Some, Part, SomeRect}
+use Rattle.plane.specs.declared.point.Point.{Point}
+use Rattle.plane.specs.declared.interval.Interval.{Interval}
+use Rattle.plane.specs.declared.rect.Rect.{Rect}
+use Rattle.plane.proofs.Parts.{part-refl, part-trans, part-in}
+use Rattle.clip.specs.declared.compute.Both.{Both}
+use Rattle.clip.specs.declared.compute.AxisCut.{AxisCut}
+use Rattle.clip.specs.declared.compute.AxisCut.the-variants.{Left, Gone}
+use Rattle.clip.specs.Cut.{negativeSlope, valueAt, inward, withEnd, movedEnd, otherMoved, sideCut, thenHigh, axisCut, afterY, afterX, thenY, boxCut}
+use Rattle.clip.specs.Values.{every, sideAsks, highAsks, axisAsks, yAsks, boxAsks}
+use Rattle.clip.proofs.Sides.{upTo, inward-up, not-inward, up-num, end-num}
+use Rattle.clip.proofs.Moves.{side-left, axis-left}
+
+every-both : (test : Float → Bool) (xs ys : List Float) → every test xs ≡ true → every test ys ≡ true → every test (xs ++ ys) ≡ true
+unfolding every
+every-both test [] ys p q = q
+every-both test (x ∷ xs) ys p q = let (h, t) = and-parts _ _ p in and-both _ _ h (every-both test xs ys t q)
+
+-- the side lies inward of the end d of i, and not of the other
+abbrev Asked : Bool → Interval → Interval → Type 0
+Asked d i w = (inward d (endOf w d) (endOf i d) ≡ true) × (inward d (endOf w d) (endOf i (not d)) ≡ false)
+
+-- so it lies in i
+asked-in : (d : Bool) (i w : Interval) → Some i → Asked d i w → In i (endOf w d)
+asked-in d i w some (p, q) =
+    let u = inward-up d _ _ p in
+    go d (not-inward d _ _ (up-num d _ _ u .0) (end-num i (not d) some) q) u
+  where
+    go : (d : Bool) {x : Float} → upTo d (endOf i (not d)) x ≡ true → upTo d x (endOf i d) ≡ true → In i x
+    go true p q = unfold endOf when_then_else_ in record { low = p; high = q }
+    go false p q = unfold endOf when_then_else_ in record { low = q; high = p }
+
+module _ (test : Float → Bool) where
+  -- ---- side by side, and axis by axis
+  side-asks : (d : Bool) (a0 b0 : Float) (this : Interval) (a1 b1 : Float) (w : Interval)
+      → (Asked d this w → test (valueAt (endOf w d) a0 b0 a1 b1) ≡ true) → every test (sideAsks d a0 b0 this a1 b1 w) ≡ true
+  unfolding sideAsks every
+  side-asks d a0 b0 this a1 b1 w h =
+      cases All _ _ _ (λ p. cases All _ _ _ (λ q. refl) (λ q. and-both _ _ (h (p, q)) refl)) (λ p. refl)
+    where
+      All : List Float → Type 0
+      All xs = every test xs ≡ true
+
+  axis-asks : (a0 b0 : Float) (this : Interval) (a1 b1 : Float) (other : Interval) (neg : Bool) (w : Interval)
+      → (Asked false this w → test (valueAt (endOf w false) a0 b0 a1 b1) ≡ true)
+      → ((s : Both) → sideCut false a0 b0 this a1 b1 other neg w ≡ Left s → Asked true (s .this) w → test (valueAt (endOf w true) a0 b0 a1 b1) ≡ true)
+      → every test (axisAsks a0 b0 this a1 b1 other neg w) ≡ true
+  unfolding axisAsks
+  axis-asks a0 b0 this a1 b1 other neg w l h = every-both test _ _ (side-asks false a0 b0 this a1 b1 w l) (go (sideCut false a0 b0 this a1 b1 other neg w) refl)
+    where
+      go : (m : AxisCut) → sideCut false a0 b0 this a1 b1 other neg w ≡ m → every test (highAsks a0 b0 a1 b1 w m) ≡ true
+      go (Left s) e = unfold highAsks in side-asks true a0 b0 (s .this) a1 b1 w (h s e)
+      go Gone e = unfold highAsks every in refl
+
+  box-asks : (a b : Point) (w r : Rect)
+      → every test (axisAsks (a .x) (b .x) (r .x) (a .y) (b .y) (r .y) (negativeSlope a b) (w .x)) ≡ true
+      → ((s : Both) → axisCut (a .x) (b .x) (r .x) (a .y) (b .y) (r .y) (negativeSlope a b) (w .x) ≡ Left s
+      → every test (axisAsks (a .y) (b .y) (s .other) (a .x) (b .x) (s .this) (negativeSlope a b) (w .y)) ≡ true)
+      → every test (boxAsks a b w r) ≡ true
+  unfolding boxAsks
+  box-asks a b w r h k = every-both test _ _ h (go (axisCut (a .x) (b .x) (r .x) (a .y) (b .y) (r .y) (negativeSlope a b) (w .x)) refl)
+    where
+      go : (m : AxisCut) → axisCut (a .x) (b .x) (r .x) (a .y) (b .y) (r .y) (negativeSlope a b) (w .x) ≡ m → every test (yAsks a b (negativeSlope a b) (w .y) m) ≡ true
+      go (Left s) e = unfold yAsks in k s e
+      go Gone e = unfold yAsks every in refl
+
+  -- ---- any box: what holds at both sides
+  pub axis-any : (a0 b0 : Float) (this : Interval) (a1 b1 : Float) (other : Interval) (neg : Bool) (w : Interval)
+      → ((d : Bool) → test (valueAt (endOf w d) a0 b0 a1 b1) ≡ true) → every test (axisAsks a0 b0 this a1 b1 other neg w) ≡ true
+  axis-any a0 b0 this a1 b1 other neg w h = axis-asks a0 b0 this a1 b1 other neg w (λ p. h false) (λ s e p. h true)
+
+  pub box-any : (a b : Point) (w r : Rect) → ((d : Bool) → test (valueAt (endOf (w .x) d) (a .x) (b .x) (a .y) (b .y)) ≡ true)
+      → ((d : Bool) → test (valueAt (endOf (w .y) d) (a .y) (b .y) (a .x) (b .x)) ≡ true) → every test (boxAsks a b w r) ≡ true
+  box-any a b w r h k = box-asks a b w r (axis-any _ _ _ _ _ _ _ (w .x) h) (λ s e. axis-any _ _ _ _ _ _ _ (w .y) k)
+
+  -- ---- a part of the edge's own box: what holds at the sides in that box
+  axis-own : (a0 b0 : Float) (this : Interval) (a1 b1 : Float) (other : Interval) (neg : Bool) (w : Interval) → Part this (between a0 b0) → Some other → Some w
+      → ((d : Bool) → In (between a0 b0) (endOf w d) → test (valueAt (endOf w d) a0 b0 a1 b1) ≡ true) → every test (axisAsks a0 b0 this a1 b1 other neg w) ≡ true
+  axis-own a0 b0 this a1 b1 other neg w part some n h =
+      axis-asks a0 b0 this a1 b1 other neg w (at false this part)
+      (λ s e. at true (s .this) (part-trans _ _ _ (side-left false a0 b0 this a1 b1 other neg w s (part .some) some (end-num w false n) e .0 .on-this) part))
+    where
+      at : (d : Bool) (i : Interval) → Part i (between a0 b0) → Asked d i w → test (valueAt (endOf w d) a0 b0 a1 b1) ≡ true
+      at d i p q = h d (part-in i _ _ p (asked-in d i w (p .some) q))
+
+  pub box-own : (a b : Point) (w : Rect) → SomeRect (boxOf a b) → SomeRect w
+      → ((d : Bool) → In (between (a .x) (b .x)) (endOf (w .x) d) → test (valueAt (endOf (w .x) d) (a .x) (b .x) (a .y) (b .y)) ≡ true)
+      → ((d : Bool) → In (between (a .y) (b .y)) (endOf (w .y) d) → test (valueAt (endOf (w .y) d) (a .y) (b .y) (a .x) (b .x)) ≡ true)
+      → every test (boxAsks a b w (boxOf a b)) ≡ true
+  box-own a b w some n h k =
+      box-asks a b w (boxOf a b) (axis-own _ _ _ _ _ _ _ (w .x) (part-refl _ (some .x)) (some .y) (n .x) h)
+      (λ s e.
+      let c = axis-left _ _ _ _ _ _ _ _ s (some .x) (some .y) (n .x) e .0 in
+      axis-own _ _ _ _ _ _ _ (w .y) (c .on-other) (c .on-this .some) (n .y) k)
+
+-- ---- a cut takes no more from the line than what it asks for: where two lines are asked for the same values, their cuts are the same
+-- the two choices of a side, one of what is asked for and one of what is made of it
+alike : {A : Type 0} (f : Float → A) (x y : A) (s t : Bool) (u v : Float) (r q : List Float)
+    → (when s then when t then [] else u ∷ [] else []) ++ r ≡ (when s then when t then [] else v ∷ [] else []) ++ q
+    → ((when s then when t then x else f u else y) ≡ (when s then when t then x else f v else y)) × (r ≡ q)
+unfolding when_then_else_
+alike f x y true true u v r q e = (refl, e)
+alike f x y true false u v r q e = let h : u ≡ v = cc in (ap f h, cc)
+alike f x y false t u v r q e = (refl, e)
+
+module _ (a0 b0 a1 b1 c0 d0 c1 d1 : Float) (neg : Bool) (w : Interval) where
+  side-alike : (d : Bool) (this other : Interval) (r q : List Float) → sideAsks d a0 b0 this a1 b1 w ++ r ≡ sideAsks d c0 d0 this c1 d1 w ++ q
+      → (sideCut d a0 b0 this a1 b1 other neg w ≡ sideCut d c0 d0 this c1 d1 other neg w) × (r ≡ q)
+  unfolding sideAsks sideCut
+  side-alike d this other r q e = alike (λ v. otherMoved (withEnd this d (endOf w d)) (movedEnd other (unlike d neg) v)) Gone _ _ _ _ _ r q e
+
+  axis-alike : (this other : Interval) (r q : List Float) → axisAsks a0 b0 this a1 b1 other neg w ++ r ≡ axisAsks c0 d0 this c1 d1 other neg w ++ q
+      → (axisCut a0 b0 this a1 b1 other neg w ≡ axisCut c0 d0 this c1 d1 other neg w) × (r ≡ q)
+  unfolding axisAsks axisCut
+  axis-alike this other r q e =
+      let m = sideCut false a0 b0 this a1 b1 other neg w in
+      let (k, f) = side-alike false this other _ _ (rw (append-assoc, append-assoc) at e) in
+      rw (← k) (go m (rw (← k) at f))
+    where
+      go : (m : AxisCut) → highAsks a0 b0 a1 b1 w m ++ r ≡ highAsks c0 d0 c1 d1 w m ++ q → (thenHigh a0 b0 a1 b1 neg w m ≡ thenHigh c0 d0 c1 d1 neg w m) × (r ≡ q)
+      go (Left s) e = unfold highAsks thenHigh in side-alike true (s .this) (s .other) r q e
+      go Gone e = unfold highAsks thenHigh in (refl, e)
+
+  pub axis-by-asks : (this other : Interval) → axisAsks a0 b0 this a1 b1 other neg w ≡ axisAsks c0 d0 this c1 d1 other neg w
+      → axisCut a0 b0 this a1 b1 other neg w ≡ axisCut c0 d0 this c1 d1 other neg w
+  axis-by-asks this other e = axis-alike this other [] [] (ap (λ (xs : List Float). xs ++ []) e) .0
+
+pub box-by-asks : (a b c d : Point) (w r : Rect) → negativeSlope a b ≡ negativeSlope c d → boxAsks a b w r ≡ boxAsks c d w r → boxCut a b w r ≡ boxCut c d w r
+unfolding boxAsks boxCut
+box-by-asks a b c d w r n e =
+    let g = negativeSlope a b in
+    let m = axisCut (a .x) (b .x) (r .x) (a .y) (b .y) (r .y) g (w .x) in
+    let (k, f) = axis-alike (a .x) (b .x) (a .y) (b .y) (c .x) (d .x) (c .y) (d .y) g (w .x) (r .x) (r .y) _ _ (rw (← n) at e) in
+    rw (← n, ← k) (go g m (rw (← k) at f))
+  where
+    go : (g : Bool) (m : AxisCut) → yAsks a b g (w .y) m ≡ yAsks c d g (w .y) m → thenY a b g (w .y) m ≡ thenY c d g (w .y) m
+    go g (Left s) e = unfold yAsks thenY afterX in ap afterY (axis-by-asks (a .y) (b .y) (a .x) (b .x) (c .y) (d .y) (c .x) (d .x) g (w .y) (s .other) (s .this) e)
+    go g Gone e = unfold yAsks thenY in refl

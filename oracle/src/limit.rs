@@ -1,0 +1,103 @@
+//! The floats about the limit of module 4 that seeded requests and records have to have, counted. Each float that is
+//! asked has to be the limit itself, the float below it, the one above it, one far beyond it and the greatest, of
+//! either sign, and it has to decide: where it is admitted the request is answered, where it is not all others are
+//! admitted.
+
+use crate::answers::{line_of, request, FLOATS, REQUEST};
+use crate::clip::{admitted, LIMIT};
+use crate::floats::power;
+use crate::operations::{is_limited, kinds, OPERATIONS};
+use crate::random::Random;
+use crate::records;
+use crate::requests::request_of;
+use crate::zeros::Zeros;
+use std::collections::BTreeMap;
+
+/// A name, and which magnitudes are of it.
+type Class = (&'static str, fn(f64) -> bool);
+
+const CLASSES: [Class; 5] = [
+    ("2^500", |magnitude| magnitude == LIMIT),
+    ("the float below it", |magnitude| magnitude == LIMIT.next_down()),
+    ("the float above it", |magnitude| magnitude == LIMIT.next_up()),
+    ("from 2^501 up", |magnitude| power(501) <= magnitude && magnitude < f64::MAX),
+    ("the greatest", |magnitude| magnitude == f64::MAX),
+];
+
+/// So many requests of an operation, and of them for each float, class and sign at least so many.
+const ASKED: usize = 50_000;
+const LEAST: u64 = 5;
+
+/// How often a float, by its place among the words, was of a class and of a sign.
+type Seen = BTreeMap<(usize, &'static str, bool), u64>;
+
+/// The floats that are read, and their places.
+fn floats_of(request: &[u64; REQUEST]) -> Vec<(usize, f64)> {
+    let (mut floats, mut place) = (Vec::new(), 1);
+    for kind in kinds(request[0]).0.chars() {
+        let (words, are_floats) = match kind {
+            'f' => (1, true),
+            'p' | 'i' => (2, true),
+            'r' => (4, true),
+            'S' => (request[1].min(FLOATS as u64) as usize, true),
+            _ => (1, false),
+        };
+        if are_floats {
+            floats.extend((place..place + words).map(|place| (place, f64::from_bits(request[place]))));
+        }
+        place += words;
+    }
+    floats
+}
+
+fn see(seen: &mut Seen, request: &[u64; REQUEST]) {
+    let floats = floats_of(request);
+    let refused: Vec<usize> = floats.iter().filter(|(_, x)| !admitted(*x)).map(|(place, _)| *place).collect();
+    let line = line_of(request, Zeros::Ours);
+    let number: u64 = line.split_whitespace().next().and_then(|number| number.parse().ok()).expect("a number");
+    // A trace without an edge shows nothing of its sample.
+    if request[0] == 61 && (number > 3 || floats.len() < 8) {
+        return;
+    }
+    for (place, x) in floats {
+        let decides = if admitted(x) { refused.is_empty() && number < 2 } else { refused == [place] };
+        for (name, is_such) in CLASSES {
+            if decides && is_such(x.abs()) {
+                *seen.entry((place, name, x.is_sign_negative())).or_default() += 1;
+            }
+        }
+    }
+}
+
+/// Every float of an operation's longest request.
+fn must_have_all(seen: &Seen, operation: u64, what: &str) {
+    for (place, _) in floats_of(&request(operation, &[u64::MAX])) {
+        for (name, _) in CLASSES {
+            for negative in [false, true] {
+                let times = seen.get(&(place, name, negative)).copied().unwrap_or(0);
+                let sign = if negative { "minus " } else { "" };
+                assert!(times >= LEAST, "{what}: word {place} was {sign}{name} {times} times");
+            }
+        }
+    }
+}
+
+#[test]
+fn requests_about_the_limit() {
+    for (operation, _, _) in OPERATIONS.into_iter().filter(|(operation, _, _)| is_limited(*operation)) {
+        let (mut random, mut seen) = (Random::new(1), Seen::new());
+        for _ in 0..ASKED {
+            see(&mut seen, &request_of(&mut random, operation));
+        }
+        must_have_all(&seen, operation, &format!("operation {operation}"));
+    }
+}
+
+#[test]
+fn records_about_the_limit() {
+    let (mut random, mut seen) = (Random::new(1), Seen::new());
+    for _ in 0..ASKED {
+        see(&mut seen, &request(34, &records::edge(&mut random).map(f64::to_bits)));
+    }
+    must_have_all(&seen, 34, "records of edges");
+}
