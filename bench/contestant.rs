@@ -1,6 +1,6 @@
-//! The crate's own text behind the C signatures of include/umblacet.h, document 01's refusals before it; with the
-//! feature `bare`, without them. The text is compiled from where the oracle finds it, and the modules around it are the
-//! oracle's.
+//! The crate's own text behind the C signatures of include/umblacet.h, with W8's clamp, and document 01's refusals before
+//! it; with the feature `unclamped` without the clamp, with `bare` without both. The text is compiled from where the
+//! oracle finds it, and the modules around it are the oracle's.
 
 #[path = "../oracle/src"]
 pub mod oracle {
@@ -152,6 +152,15 @@ impl CVector {
         (self.x == 0.0) & (self.y == 0.0) & (self.z == 0.0)
     }
 }
+
+// ---- the cut: the crate's text with W8's clamp or, to be compared, without
+
+#[cfg(not(feature = "unclamped"))]
+mod clamped;
+#[cfg(not(feature = "unclamped"))]
+use clamped::clip_edge;
+#[cfg(feature = "unclamped")]
+use s2::edge_clipping::clip_edge;
 
 // ---- cutting an edge or a whole trace: never both, since the compiler takes `clip_edge` only into a single caller
 

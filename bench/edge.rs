@@ -1,8 +1,7 @@
 //! One edge.
 
 use crate::number::{Number, BAD_WINDOW, DONE, MISSED, NOT_FINITE};
-use crate::s2::edge_clipping;
-use crate::{CPoint, CRect, REFUSING, SQUARE};
+use crate::{clip_edge, CPoint, CRect, REFUSING, SQUARE};
 
 #[repr(C)]
 pub struct CCut {
@@ -33,7 +32,7 @@ pub extern "C" fn crate_clip_edge(a: CPoint, b: CPoint, window: CRect) -> CCut {
             return no_cut(BAD_WINDOW);
         }
     }
-    match edge_clipping::clip_edge(a.into(), b.into(), window.into()) {
+    match clip_edge(a.into(), b.into(), window.into()) {
         (a, b, true) => CCut { number: DONE, a: a.into(), b: b.into() },
         (_, _, false) => no_cut(MISSED),
     }

@@ -2,8 +2,7 @@
 
 use crate::number::{Number, BAD_TRACE, BAD_WINDOW, BUFFER_TOO_SHORT, DONE, MISSED, NOT_FINITE};
 use crate::r2::{point::Point, rect::Rect};
-use crate::s2::edge_clipping;
-use crate::{record, CPoint, CRect, RECORD, SQUARE};
+use crate::{clip_edge, record, CPoint, CRect, RECORD, SQUARE};
 use std::slice::{from_raw_parts, from_raw_parts_mut};
 
 const MOST_SAMPLES: usize = 4096;
@@ -59,7 +58,7 @@ fn cut_edges(samples: &[CPoint], window: Rect, out: &mut [[u8; RECORD]]) -> CTra
         }
         let end = live_until(samples, at + 2);
         for (ends, place) in samples[at..end].windows(2).zip(&mut out[at..]) {
-            if let (a, b, true) = edge_clipping::clip_edge(ends[0].into(), ends[1].into(), window.clone()) {
+            if let (a, b, true) = clip_edge(ends[0].into(), ends[1].into(), window.clone()) {
                 *place = record(DONE, a, b);
                 kept += 1;
             } else {

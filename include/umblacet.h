@@ -196,8 +196,9 @@ umb_rect_answer umb_rect_intersection(umb_rect r, umb_rect q);
  * one beyond it is refused as one that is not finite is, with 2, or with 3 as a side of the window. */
 
 /* The part of the edge from a to b that lies in the window. Of these numbers: 2, 3, then 1 where nothing is left, or 0.
- * Kept points lie in the window and in the edge's own box; an edge inside the window comes back as it was (where a and
- * b compare equal on an axis, both with a's coordinate); a dead sample is never joined to anything. */
+ * Kept points lie in the window and in the edge's own box. Where a or b lies in the window the edge is kept and that
+ * end comes back as it was, so an edge inside the window does (where a and b compare equal on an axis, both with a's
+ * coordinate). A dead sample is never joined to anything. */
 umb_cut umb_clip_edge(umb_point a, umb_point b, umb_rect window);
 /* Whether the edge meets the window. Of these numbers: 2, 3, 0. It is the crate's test, which rounds: it need not agree
  * with umb_clip_edge, least of all where the ends are far out or its products underflow. */
@@ -210,7 +211,9 @@ umb_axes umb_clip_bound_axis(double a0, double b0, umb_interval bound0, double a
                              bool neg_slope, umb_interval window);
 /* The bound with its high end, or its low, moved to the value; never wider. 2, 1 where nothing is left, or 0. */
 umb_interval_answer umb_update_endpoint(umb_interval bound, bool high_endpoint, double value);
-/* The value at x on the line through (a, a1) and (b, b1): no NaN, but beyond a and b it may be infinite. 2 or 0. */
+/* The value at x on the line through (a, a1) and (b, b1). For x from a to b, in either order, it lies between a1 and
+ * b1, and is a1 at a and b1 at b, as numbers (where a = b, a1). Beyond a and b it may be infinite; it is no NaN. 2 or
+ * 0. */
 umb_real umb_interpolate(double x, double a, double b, double a1, double b1);
 
 /* ---- a whole trace in one call */
@@ -219,10 +222,11 @@ umb_real umb_interpolate(double x, double a, double b, double a1, double b1);
  * for each, from out on, and how many of them were kept, missed and refused, and how many there are. A record is the
  * number of the edge's answer, 0, 1 or 2, seven zero bytes, and a.x, a.y, b.x, b.y of the kept points as little-endian
  * bits, zeros unless it is kept. A dead sample is 2 in the records of the edges that touch it, and nowhere else; no
- * sample or one has no edge. So a trace cut at a sample, which is sent in both parts, gives the same records. Of these
- * numbers: 10, 3, 8, 0. Beside 0 the bytes after the last record stay as they were; beside any other number all of out
- * does. samples has samples_length floats, x and y in turn, and out has out_length bytes; either length may be 0,
- * neither pointer is null, and the two do not overlap. The samples are only read. */
+ * sample or one has no edge. So a trace cut at a sample, which is sent in both parts, gives the same records. An edge
+ * between live samples is kept where one of them lies in the window, with that one as it was. Of these numbers: 10, 3,
+ * 8, 0. Beside 0 the bytes after the last record stay as they were; beside any other number all of out does. samples
+ * has samples_length floats, x and y in turn, and out has out_length bytes; either length may be 0, neither pointer is
+ * null, and the two do not overlap. The samples are only read. */
 umb_trace_answer umb_cut_trace(const double *samples, size_t samples_length, umb_rect window, uint8_t *out,
                                size_t out_length);
 

@@ -14,6 +14,12 @@ const EDGE_CLIPPING: &str = "s2/edge_clipping.rs";
 /// The head of its loop from face to face.
 const WALK: &str = "while face != b_face ";
 
+/// Its functions above the value on a line and the end that it moves.
+const CUT: [&str; 3] = ["clip_edge", "clip_edge_bound", "clip_bound_axis"];
+
+/// That value, as it is called.
+const VALUE: &str = "interpolate(";
+
 /// The files that it needs, and those that these need.
 const MODULES: [&str; 11] = [
     "consts.rs",
@@ -39,7 +45,9 @@ fn main() {
     let edge_clipping = find(&sources, EDGE_CLIPPING);
     check_sources(&sources);
     println!("cargo:rustc-env=EDGE_CLIPPING={}", text(&edge_clipping));
-    cut_out_walk(&edge_clipping);
+    let source = fs::read_to_string(&edge_clipping).expect("the file was just found");
+    cut_out_walk(&source);
+    cut_out_cut(&source);
 }
 
 /// The folder `src` of the crate. A relative S2_SRC is taken from this package's folder, where cargo runs this program.
@@ -101,18 +109,35 @@ fn declare_module(file: &str, path: &Path) {
 
 /// Writes the body of the crate's walk from face to face, from its opening brace to its closing one, byte for byte:
 /// the crate's loop may never end, so it is run under a loop of ours.
-fn cut_out_walk(edge_clipping: &Path) {
-    let source = fs::read_to_string(edge_clipping).expect("the file was just found");
-    match source.split_once(WALK) {
-        Some((_, rest)) if !rest.contains(WALK) => write_out("walk_body.rs", block(rest)),
+fn cut_out_walk(source: &str) {
+    write_out("walk_body.rs", block(after(source, WALK)));
+}
+
+/// Writes those functions, byte for byte but that all are public: the module that includes them has a value on a line of
+/// its own. No other function of the crate's may ask for that value.
+fn cut_out_cut(source: &str) {
+    let functions = CUT.map(|name| {
+        let head = format!("fn {name}(");
+        format!("pub {head}{}\n", block(after(source, &head)))
+    });
+    let asked = |text: &str| text.matches(VALUE).count();
+    if functions.iter().map(|function| asked(function)).sum::<usize>() + 1 != asked(source) {
+        give_up(&format!("{EDGE_CLIPPING} asks for {VALUE:?} outside of {}.", CUT.join(", ")));
+    }
+    write_out("cut.rs", &functions.join("\n"));
+}
+
+/// What follows the words in the crate's text, where they stand once.
+fn after<'a>(source: &'a str, words: &str) -> &'a str {
+    match source.split_once(words) {
+        Some((_, rest)) if !rest.contains(words) => rest,
         _ => give_up(&format!(
-            "{WALK:?} does not stand once in {}: the environment variable S2_SRC has to name the crate s2 0.2.0.",
-            edge_clipping.display()
+            "{words:?} does not stand once in {EDGE_CLIPPING}: S2_SRC has to name the folder of the crate s2 0.2.0."
         )),
     }
 }
 
-/// The block that the text begins with. Braces in a comment would not count.
+/// The text up to the end of its first block. Braces in a comment would not count.
 fn block(text: &str) -> &str {
     let (mut depth, mut end) = (0, 0);
     for line in text.split_inclusive('\n') {
@@ -129,7 +154,7 @@ fn block(text: &str) -> &str {
         }
         end += line.len();
     }
-    give_up("The crate's loop from face to face does not end: the environment variable S2_SRC names another text.")
+    give_up("A block of the crate's text does not end: the environment variable S2_SRC names another text.")
 }
 
 fn write_out(file: &str, contents: &str) {

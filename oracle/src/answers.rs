@@ -3,8 +3,9 @@
 use crate::number::{Answer, DONE, NO_SUCH_OPERATION};
 use crate::r2::rect::Rect;
 use crate::stream::{answer_records, hex, words, write_line};
+use crate::whose::Whose;
 use crate::words::{shown, Arguments};
-use crate::zeros::{settle, Zeros};
+use crate::zeros::settle;
 use crate::{clip, cube, line, plane, trace, walk};
 use std::io::{self, Write};
 
@@ -20,8 +21,8 @@ const UNTOUCHED: u8 = 0xa5;
 /// No trace is asked with more floats.
 pub const FLOATS: usize = 16;
 
-pub fn run(zeros: Zeros) -> io::Result<()> {
-    answer_records(|record: &[u8; 8 * REQUEST], output| answer(&words(record), zeros, output))
+pub fn run(whose: Whose) -> io::Result<()> {
+    answer_records(|record: &[u8; 8 * REQUEST], output| answer(&words(record), whose, output))
 }
 
 /// The words after the arguments are ignored, so they may be zeros.
@@ -32,30 +33,29 @@ pub fn request(operation: u64, arguments: &[u64]) -> [u64; REQUEST] {
     request
 }
 
-pub fn answer(request: &[u64; REQUEST], zeros: Zeros, output: &mut impl Write) -> io::Result<()> {
+pub fn answer(request: &[u64; REQUEST], whose: Whose, output: &mut impl Write) -> io::Result<()> {
     let (operation, arguments) = (request[0], &request[1..]);
     match operation {
         60 => return write_walk(&mut Arguments::new(arguments), output),
-        61 => return write_trace(&mut Arguments::new(arguments), output),
+        61 => return write_trace(whose, &mut Arguments::new(arguments), output),
         _ => {}
     }
-    let mut answer = results(operation, &mut Arguments::new(arguments));
-    if let (Ok(results), Zeros::Ours) = (&mut answer, zeros) {
+    let mut answer = results(operation, whose, &mut Arguments::new(arguments));
+    if let (Ok(results), Whose::Ours) = (&mut answer, whose) {
         settle(operation, arguments, results);
     }
     write_line(output, &answer)
 }
 
 /// The line of a request, its end of line too.
-#[cfg(test)]
-pub fn line_of(request: &[u64; REQUEST], zeros: Zeros) -> String {
+pub fn line_of(request: &[u64; REQUEST], whose: Whose) -> String {
     let mut line = Vec::new();
-    answer(request, zeros, &mut line).expect("memory can be written");
+    answer(request, whose, &mut line).expect("memory can be written");
     String::from_utf8(line).expect("a line is text")
 }
 
 /// Rust takes arguments from left to right, so each function's own signature reads the request.
-fn results(operation: u64, a: &mut Arguments) -> Answer<Vec<u64>> {
+fn results(operation: u64, whose: Whose, a: &mut Arguments) -> Answer<Vec<u64>> {
     match operation {
         1 => shown(plane::sum(a.take(), a.take())),
         2 => shown(plane::difference(a.take(), a.take())),
@@ -82,13 +82,14 @@ fn results(operation: u64, a: &mut Arguments) -> Answer<Vec<u64>> {
         27 => shown(plane::intersects(a.take(), a.take())),
         28 => shown(plane::union(a.take(), a.take())),
         29 => shown(plane::intersection(a.take(), a.take())),
-        30 => shown(clip::interpolate(a.take(), a.take(), a.take(), a.take(), a.take())),
+        30 => shown(clip::interpolate(whose, a.take(), a.take(), a.take(), a.take(), a.take())),
         31 => shown(clip::update_endpoint(a.take(), a.take(), a.take())),
         32 => {
-            shown(clip::clip_bound_axis(a.take(), a.take(), a.take(), a.take(), a.take(), a.take(), a.take(), a.take()))
+            let (a0, b0, bound0, a1, b1) = (a.take(), a.take(), a.take(), a.take(), a.take());
+            shown(clip::clip_bound_axis(whose, a0, b0, bound0, a1, b1, a.take(), a.take(), a.take()))
         }
-        33 => shown(clip::clip_edge_bound(a.take(), a.take(), a.take(), a.take())),
-        34 => shown(clip::clip_edge(a.take(), a.take(), a.take())),
+        33 => shown(clip::clip_edge_bound(whose, a.take(), a.take(), a.take(), a.take())),
+        34 => shown(clip::clip_edge(whose, a.take(), a.take(), a.take())),
         35 => shown(clip::edge_intersects_rect(a.take(), a.take(), a.take())),
         40 => shown(cube::face(a.take())),
         41 => shown(cube::xyz_to_face_uv(a.take())),
@@ -115,10 +116,10 @@ fn write_walk(a: &mut Arguments, output: &mut impl Write) -> io::Result<()> {
     write_lent(output, a.take(), |buffer| Ok([walk::walk(face, start, target, end, normal, buffer)?]))
 }
 
-fn write_trace(a: &mut Arguments, output: &mut impl Write) -> io::Result<()> {
+fn write_trace(whose: Whose, a: &mut Arguments, output: &mut impl Write) -> io::Result<()> {
     let (count, length, window): (u64, u64, Rect) = (a.take(), a.take(), a.take());
     let samples: Vec<f64> = (0..count.min(FLOATS as u64)).map(|_| a.take()).collect();
-    write_lent(output, length, |buffer| trace::cut_trace(&samples, &window, buffer))
+    write_lent(output, length, |buffer| trace::cut_trace(whose, &samples, &window, buffer))
 }
 
 /// The line of a call that is lent a buffer shows its counts and the whole buffer, whatever the number: what was

@@ -4,6 +4,7 @@
 use crate::clip::clip_edge;
 use crate::number::{BAD_WINDOW, MISSED, NOT_FINITE};
 use crate::r2::{point::Point, rect::Rect};
+use crate::whose::Whose;
 use std::collections::BTreeMap;
 
 /// How often each was seen.
@@ -31,7 +32,7 @@ pub fn must_be_seen(seen: &Seen, names: &[&str], least: u64) {
 }
 
 pub fn see_edge(seen: &mut Seen, a: Point, b: Point, window: &Rect) {
-    let name = match clip_edge(a, b, window.clone()) {
+    let name = match clip_edge(Whose::Crates, a, b, window.clone()) {
         Err(NOT_FINITE) => "a dead sample",
         Err(BAD_WINDOW) => return,
         Err(number) => {

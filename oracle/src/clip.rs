@@ -5,7 +5,8 @@ use crate::floats::power;
 use crate::number::{Answer, BAD_WINDOW, MISSED};
 use crate::r1::interval::Interval;
 use crate::r2::{point::Point, rect::Rect};
-use crate::s2::edge_clipping::{self, private};
+use crate::s2::edge_clipping::private;
+use crate::whose::Whose;
 
 /// Change request W5: no float beyond this magnitude is admitted, whatever it is for.
 pub const LIMIT: f64 = power(500);
@@ -28,9 +29,9 @@ pub fn admit_window(window: &Rect) -> Answer<()> {
     admit(&[], &[window.x, window.y])
 }
 
-pub fn interpolate(x: f64, a: f64, b: f64, a1: f64, b1: f64) -> Answer<f64> {
+pub fn interpolate(whose: Whose, x: f64, a: f64, b: f64, a1: f64, b1: f64) -> Answer<f64> {
     admit(&[&x, &a, &b, &a1, &b1], &[])?;
-    Ok(private::interpolate(x, a, b, a1, b1))
+    Ok((whose.cut().interpolate)(x, a, b, a1, b1))
 }
 
 pub fn update_endpoint(bound: Interval, high: bool, value: f64) -> Answer<Interval> {
@@ -43,6 +44,7 @@ pub fn update_endpoint(bound: Interval, high: bool, value: f64) -> Answer<Interv
 
 #[allow(clippy::too_many_arguments)]
 pub fn clip_bound_axis(
+    whose: Whose,
     a0: f64,
     b0: f64,
     bound0: Interval,
@@ -53,28 +55,28 @@ pub fn clip_bound_axis(
     window: Interval,
 ) -> Answer<(Interval, Interval)> {
     admit(&[&a0, &b0, &bound0, &a1, &b1, &bound1], &[window])?;
-    match private::clip_bound_axis(a0, b0, bound0, a1, b1, bound1, negative_slope, window) {
+    match (whose.cut().clip_bound_axis)(a0, b0, bound0, a1, b1, bound1, negative_slope, window) {
         (kept0, kept1, true) => Ok((kept0, kept1)),
         (_, _, false) => Err(MISSED),
     }
 }
 
-pub fn clip_edge_bound(a: Point, b: Point, window: Rect, bound: Rect) -> Answer<Rect> {
+pub fn clip_edge_bound(whose: Whose, a: Point, b: Point, window: Rect, bound: Rect) -> Answer<Rect> {
     admit(&[&a, &b, &bound], &[window.x, window.y])?;
-    match private::clip_edge_bound(a, b, window, bound) {
+    match (whose.cut().clip_edge_bound)(a, b, window, bound) {
         (kept, true) => Ok(kept),
         (_, false) => Err(MISSED),
     }
 }
 
-pub fn clip_edge(a: Point, b: Point, window: Rect) -> Answer<(Point, Point)> {
+pub fn clip_edge(whose: Whose, a: Point, b: Point, window: Rect) -> Answer<(Point, Point)> {
     admit(&[&a, &b], &[window.x, window.y])?;
-    clip_edge_unrefused(a, b, window)
+    clip_edge_unrefused(whose, a, b, window)
 }
 
-/// What the crate answers for any floats, with no refusal before it.
-pub fn clip_edge_unrefused(a: Point, b: Point, window: Rect) -> Answer<(Point, Point)> {
-    match edge_clipping::clip_edge(a, b, window) {
+/// What is answered for any floats, with no refusal before it.
+pub fn clip_edge_unrefused(whose: Whose, a: Point, b: Point, window: Rect) -> Answer<(Point, Point)> {
+    match (whose.cut().clip_edge)(a, b, window) {
         (kept_a, kept_b, true) => Ok((kept_a, kept_b)),
         (_, _, false) => Err(MISSED),
     }

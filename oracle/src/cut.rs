@@ -4,16 +4,17 @@
 use crate::number::Answer;
 use crate::r2::{point::Point, rect::Rect};
 use crate::stream::{answer_records, words, write_line};
+use crate::whose::Whose;
 use crate::words::{shown, Arguments};
 use std::io;
 
 /// Words of a record: a, b, the window's low corner and its high corner.
 pub const RECORD: usize = 8;
 
-pub fn run(clip_edge: fn(Point, Point, Rect) -> Answer<(Point, Point)>) -> io::Result<()> {
+pub fn run(clip_edge: impl Fn(Whose, Point, Point, Rect) -> Answer<(Point, Point)>) -> io::Result<()> {
     answer_records(|record: &[u8; 8 * RECORD], output| {
         let record: [u64; RECORD] = words(record);
         let mut a = Arguments::new(&record);
-        write_line(output, &shown(clip_edge(a.take(), a.take(), a.take())))
+        write_line(output, &shown(clip_edge(Whose::Crates, a.take(), a.take(), a.take())))
     })
 }

@@ -4,10 +4,11 @@
 mod cube;
 mod overflow;
 
+use crate::clamped::CLAMPED;
 use crate::kept::{KEPT, LEFT_OUT};
 use crate::r1::interval::Interval;
 use crate::r2::{point::Point, rect::Rect};
-use crate::s2::edge_clipping::{self, private};
+use crate::s2::edge_clipping::private::{self, Cut, CRATES};
 use crate::whole;
 use crate::words::Arguments;
 
@@ -37,7 +38,7 @@ fn sides(rect: Rect) -> [f64; 4] {
 
 /// Operation 34's arguments: the points that are kept.
 fn cut(a: &mut Arguments) -> Option<[f64; 4]> {
-    let (kept_a, kept_b, kept) = edge_clipping::clip_edge(a.take(), a.take(), a.take());
+    let (kept_a, kept_b, kept) = (CRATES.clip_edge)(a.take(), a.take(), a.take());
     kept.then_some([kept_a.x, kept_a.y, kept_b.x, kept_b.y])
 }
 
@@ -48,12 +49,12 @@ fn meets(a: &mut Arguments) -> bool {
 
 /// Operation 30's arguments.
 fn interpolate(a: &mut Arguments) -> f64 {
-    private::interpolate(a.take(), a.take(), a.take(), a.take(), a.take())
+    (CRATES.interpolate)(a.take(), a.take(), a.take(), a.take(), a.take())
 }
 
 /// Operation 32's arguments.
 fn clip_bound_axis(a: &mut Arguments) -> (Interval, Interval, bool) {
-    private::clip_bound_axis(a.take(), a.take(), a.take(), a.take(), a.take(), a.take(), a.take(), a.take())
+    (CRATES.clip_bound_axis)(a.take(), a.take(), a.take(), a.take(), a.take(), a.take(), a.take(), a.take())
 }
 
 #[test]
@@ -122,7 +123,7 @@ fn d8_a_point_window_on_the_line_and_one_beside_it() {
 #[test]
 fn d9_a_missed_bound_is_not_the_original_one() {
     let [mut a] = asked("D9", [33]);
-    let (bound, kept) = private::clip_edge_bound(a.take(), a.take(), a.take(), a.take());
+    let (bound, kept) = (CRATES.clip_edge_bound)(a.take(), a.take(), a.take(), a.take());
     assert!(!kept);
     assert_eq!(sides(bound), [0.0, 0.25, 0.0, 0.25]);
 }
@@ -227,4 +228,22 @@ fn d32_floats_beyond_the_limit() {
     for a in [&mut at, &mut above, &mut side_at, &mut side_above] {
         assert_eq!(cut(a), Some([0.0, 0.0, 1.0, 0.0]));
     }
+}
+
+/// With the clamp too, where the page says so.
+#[test]
+fn d33_an_edge_that_vanishes() {
+    let ask = |text: &Cut| {
+        let [mut value, mut edge, mut bound, mut crossing] = asked("D33", [30, 34, 33, 34]);
+        let (kept, _) = (text.clip_edge_bound)(bound.take(), bound.take(), bound.take(), bound.take());
+        let [edge, crossing] = [&mut edge, &mut crossing].map(|a| {
+            let (a, b, kept) = (text.clip_edge)(a.take(), a.take(), a.take());
+            kept.then_some([a.x, a.y, b.x, b.y])
+        });
+        let value = (text.interpolate)(value.take(), value.take(), value.take(), value.take(), value.take());
+        (value, edge, ends(kept.y), crossing)
+    };
+    let (step, past) = (f64::from_bits(1), 0.04f64.next_up());
+    assert_eq!(ask(&CRATES), (past, None, [past, 1.0], None));
+    assert_eq!(ask(&CLAMPED), (0.04, Some([5.0 * step, 0.04, 10.0 * step, 0.04]), [0.04, 1.0], None));
 }

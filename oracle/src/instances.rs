@@ -1,14 +1,14 @@
 //! Document 01's instances, P1 to P14 and those beside them, asked as requests.
 
 use crate::answers::{line_of, request};
-use crate::zeros::Zeros;
+use crate::whose::Whose;
 
 const NAN: f64 = f64::NAN;
 /// The window of P1, P2 and P5, and an operation's words for a line that is kept.
 const WINDOW: [f64; 4] = [1.0, 0.0, 3.0, 2.0];
 
 fn ask(operation: u64, arguments: &[u64]) -> String {
-    line_of(&request(operation, arguments), Zeros::Crates)
+    line_of(&request(operation, arguments), Whose::Crates)
 }
 
 fn ask_floats(operation: u64, floats: &[f64]) -> String {

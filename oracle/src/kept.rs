@@ -89,6 +89,10 @@ pub const KEPT: &[Kept] = &[
     ("D32", 34, &floats([0.0, 0.0, 1.0, 0.0, 0.0, 0.0, LIMIT, 1.0])),
     ("D32", 34, &floats([0.0, 0.0, 1.0, 0.0, 0.0, 0.0, LIMIT.next_up(), 1.0])),
     ("D19", 34, &floats([-LIMIT, 0.0, LIMIT, 1.0, 0.0, 0.0, 1.0, 1.0])),
+    ("D33", 30, &floats([5.0 * STEP, 0.0, 10.0 * STEP, -0.06, 0.04])),
+    ("D33", 34, &floats([0.0, -0.06, 10.0 * STEP, 0.04, 5.0 * STEP, -1.0, 1.0, 1.0])),
+    ("D33", 33, &floats([0.0, -0.06, 10.0 * STEP, 0.04, 5.0 * STEP, -1.0, 1.0, 1.0, 0.0, -1.0, 10.0 * STEP, 1.0])),
+    ("D33", 34, &floats([0.0, 0.1, 0.1, 0.8, 0.05, 0.0, 0.05f64.next_up(), 10.0])),
 ];
 
 /// Entries about what the port leaves out, so that no operation can keep them, and the words of their inputs.

@@ -10,6 +10,8 @@ pub enum Likeness {
     Same,
     /// The same numbers, though somewhere a zero has the other sign.
     SameButForAZero,
+    /// Not the crate's, but what its text gives with the clamp (`clamped.rs`), where a value left its ends.
+    Clamped,
     Different,
 }
 
@@ -138,7 +140,7 @@ mod tests {
     use crate::operations::{kinds, OPERATIONS};
     use crate::random::Random;
     use crate::requests::request;
-    use crate::zeros::Zeros;
+    use crate::whose::Whose;
 
     const RECORDS: &str = "0000000000000000 000000000000f03f 0000000000000080 000000000000f87f 0000000000000040";
     const ZERO: &str = "0 0000000000000000\n";
@@ -239,7 +241,7 @@ mod tests {
         for _ in 0..50_000 {
             let request = request(&mut random);
             let results = kinds(request[0]).1;
-            let line = line_of(&request, Zeros::Crates);
+            let line = line_of(&request, Whose::Crates);
             let Some(groups) = carried(line.as_bytes()).filter(|_| !lent(results)) else { continue };
             let floats: Vec<bool> = results.chars().flat_map(floats_in).collect();
             assert_eq!(groups.len(), floats.len(), "operation {}", request[0]);

@@ -10,7 +10,7 @@ use crate::operations::{is_limited, kinds, OPERATIONS};
 use crate::random::Random;
 use crate::records;
 use crate::requests::request_of;
-use crate::zeros::Zeros;
+use crate::whose::Whose;
 use std::collections::BTreeMap;
 
 /// A name, and which magnitudes are of it.
@@ -53,7 +53,7 @@ fn floats_of(request: &[u64; REQUEST]) -> Vec<(usize, f64)> {
 fn see(seen: &mut Seen, request: &[u64; REQUEST]) {
     let floats = floats_of(request);
     let refused: Vec<usize> = floats.iter().filter(|(_, x)| !admitted(*x)).map(|(place, _)| *place).collect();
-    let line = line_of(request, Zeros::Ours);
+    let line = line_of(request, Whose::Ours);
     let number: u64 = line.split_whitespace().next().and_then(|number| number.parse().ok()).expect("a number");
     // A trace without an edge shows nothing of its sample.
     if request[0] == 61 && (number > 3 || floats.len() < 8) {

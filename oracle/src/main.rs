@@ -1,7 +1,8 @@
-//! Runs the unchanged text of the crate s2 0.2.0, to be compared with the port.
+//! Runs the text of the crate s2 0.2.0, unchanged and with one clamp, to be compared with the port.
 
 mod agree;
 mod answers;
+mod clamped;
 #[cfg(test)]
 mod classes;
 mod clip;
@@ -24,6 +25,7 @@ mod number;
 mod operations;
 #[cfg(test)]
 mod page;
+mod past;
 mod plane;
 mod promises;
 mod random;
@@ -37,6 +39,7 @@ mod trace;
 mod traces;
 mod walk;
 mod whole;
+mod whose;
 mod words;
 mod zeros;
 
@@ -47,7 +50,7 @@ extern crate self as libm;
 
 use std::process::ExitCode;
 use std::{env, io};
-use zeros::Zeros;
+use whose::Whose;
 
 const USAGE: &str = "\
 oracle cut < RECORDS            a line for each 64-byte record, as document 01's program writes it
@@ -56,11 +59,13 @@ oracle records KIND N SEED      N seeded records; KIND is bits or edges
 oracle trace < SAMPLES          a 40-byte record for each edge of a trace: a window, then samples, all floats of 8 bytes
 oracle samples N SEED           a window and N seeded samples
 oracle answers < REQUESTS       a line for each 192-byte request, as the answering program writes it
-oracle list < REQUESTS          the same, but where the crate leaves a zero's sign open it is as our definitions have it
+oracle list < REQUESTS          the same as our definitions have it: zeros that the crate leaves open, and the clamp
 oracle requests N SEED          N seeded requests, every operation among them
+oracle past N SEED              searches N seeded requests for what the clamp changes; 1 when it is not as it has to be
+oracle past-requests N SEED     those requests
 oracle grid                     every request over short lists of words
 oracle kept                     the requests that keep docs/DIFFERENCES.md
-oracle same PROGRAM INPUT A B   compares two files that cut, answers or trace wrote for INPUT; 1 when they differ";
+oracle same PROGRAM INPUT A B   compares two files that cut, answers or trace wrote for INPUT; 1 when they differ but by the clamp";
 
 fn main() -> ExitCode {
     let arguments: Vec<String> = env::args().skip(1).collect();
@@ -82,9 +87,11 @@ fn run(arguments: &[&str]) -> io::Result<bool> {
         ["crate-cut"] => cut::run(clip::clip_edge_unrefused)?,
         ["trace"] => trace::run()?,
         ["samples", count, seed] => samples::run(whole(count)?, whole(seed)?)?,
-        ["answers"] => answers::run(Zeros::Crates)?,
-        ["list"] => answers::run(Zeros::Ours)?,
-        ["requests", count, seed] => requests::run(whole(count)?, whole(seed)?)?,
+        ["answers"] => answers::run(Whose::Crates)?,
+        ["list"] => answers::run(Whose::Ours)?,
+        ["requests", count, seed] => requests::run(requests::request, whole(count)?, whole(seed)?)?,
+        ["past", count, seed] => return past::run(whole(count)?, whole(seed)?),
+        ["past-requests", count, seed] => requests::run(past::request, whole(count)?, whole(seed)?)?,
         ["grid"] => grid::run()?,
         ["kept"] => kept::run()?,
         ["records", kind, count, seed] => records::run(kind, whole(count)?, whole(seed)?)?,

@@ -4,7 +4,7 @@
 use crate::answers::{line_of, request, REQUEST};
 use crate::kept::{KEPT, LEFT_OUT};
 use crate::stream::words;
-use crate::zeros::Zeros;
+use crate::whose::Whose;
 use std::collections::BTreeMap;
 
 const PAGE: &str = include_str!("../../docs/DIFFERENCES.md");
@@ -24,7 +24,7 @@ fn expected() -> BTreeMap<&'static str, Vec<String>> {
         lines.entry(name).or_default().push(format!("  - no operation of ours: `{}`", bits(words)));
     }
     for (place, (name, operation, words)) in KEPT.iter().enumerate() {
-        let line = line_of(&request(*operation, words), Zeros::Ours);
+        let line = line_of(&request(*operation, words), Whose::Ours);
         let mut groups = line.split_whitespace();
         let number = groups.next().expect("a line begins with a number");
         let results = groups.map(|group| u64::from_str_radix(group, 16).expect("short results")).collect::<Vec<_>>();
@@ -82,13 +82,13 @@ fn the_stored_list_begins_with_the_kept_requests() {
     }
 }
 
-/// No line of the stored list is our program's.
+/// No line of the stored list is our program's: they are the crate's, its open zeros and the clamp as `Whose` has them.
 #[test]
 fn the_stored_lines_are_the_crates() {
     let (requests, torn) = STORED_REQUESTS.as_chunks::<{ 8 * REQUEST }>();
     let mut lines = STORED_LINES.split_inclusive('\n');
     for (place, request) in requests.iter().enumerate() {
-        let expected = line_of(&words(request), Zeros::Ours);
+        let expected = line_of(&words(request), Whose::Ours);
         assert_eq!(lines.next(), Some(expected.as_str()), "stored request {}", place + 1);
     }
     assert!(!torn.is_empty() && lines.next() == Some("9\n") && lines.next().is_none(), "a torn end");

@@ -19,7 +19,7 @@ use crate::stream::write_words;
 use std::io::{self, BufWriter, Write};
 
 /// a.x, a.y, b.x, b.y, window low x, low y, high x, high y: a point's or corner's coordinate on an axis is 2 apart.
-type Record = [f64; 8];
+pub type Record = [f64; 8];
 type Point = [f64; 2];
 
 const A: usize = 0;

@@ -28,7 +28,7 @@ pub enum Word {
 /// A line of progress after so many requests.
 const PROGRESS: u64 = 1_000_000;
 
-pub fn run(count: u64, seed: u64) -> io::Result<()> {
+pub fn run(request: fn(&mut Random) -> [u64; REQUEST], count: u64, seed: u64) -> io::Result<()> {
     let mut random = Random::new(seed);
     let mut output = BufWriter::with_capacity(1 << 16, io::stdout().lock());
     for done in 1..=count {
@@ -53,6 +53,11 @@ pub fn request_of(random: &mut Random, operation: u64) -> [u64; REQUEST] {
         _ => plain_arguments(random, operation),
     };
     spoil(random, operation, &mut floats_of(&mut arguments));
+    filled(random, operation, arguments)
+}
+
+/// The words after the arguments are random.
+pub fn filled(random: &mut Random, operation: u64, arguments: Vec<Word>) -> [u64; REQUEST] {
     let mut request = std::array::from_fn(|_| random.word());
     request[0] = operation;
     for (word, argument) in request[1..].iter_mut().zip(arguments) {

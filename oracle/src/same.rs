@@ -1,13 +1,18 @@
 //! `oracle same`: two files of lines, or of a trace's records, compared as document 01 takes numbers. What was asked
-//! tells which words of a line are floats.
+//! tells which words of a line are floats, and whether a value left its ends. The first file is the crate's; where one
+//! did, the crate is asked again with the clamp, and the second file has to have that.
 
-use crate::answers::REQUEST;
+use crate::answers::{line_of, request, REQUEST};
+use crate::clamped::watch;
 use crate::cut::RECORD;
 use crate::likeness::{compare, compare_edges, Likeness, Likeness::*};
 use crate::operations::kinds;
+use crate::r2::{point::Point, rect::Rect};
 use crate::stream::{hex, read_full, words};
-use crate::trace::{SAMPLE_BYTES, WINDOW_BYTES};
+use crate::trace::{self, SAMPLE_BYTES, WINDOW_BYTES};
 use crate::walk;
+use crate::whose::Whose;
+use crate::words::Arguments;
 use std::fmt;
 use std::fs::File;
 use std::io::{self, BufRead, BufReader, Read, Write};
@@ -29,10 +34,14 @@ pub fn run(program: &str, asked: &str, one: &str, other: &str) -> io::Result<boo
 
 /// There has to be a line for each record that was asked, and one for a torn end.
 fn look(program: &str, mut asked: impl Read, mut one: impl BufRead, mut other: impl BufRead) -> io::Result<Found> {
-    let (size, results): (usize, fn(&[u8]) -> &'static str) = match program {
-        "cut" => (8 * RECORD, |_| kinds(34).1),
-        "answers" => (8 * REQUEST, |request| kinds(words::<1>(request)[0]).1),
+    let size = match program {
+        "cut" => 8 * RECORD,
+        "answers" => 8 * REQUEST,
         _ => return Err(io::Error::other(format!("no program is called {program:?}: cut, answers, trace"))),
+    };
+    let asked_in = |record: &[u8]| match program {
+        "cut" => request(34, &words::<RECORD>(record)),
+        _ => words(record),
     };
     let (mut record, mut a, mut b) = (vec![0; size], Vec::new(), Vec::new());
     let mut found = Found::new("line", shown);
@@ -44,7 +53,11 @@ fn look(program: &str, mut asked: impl Read, mut one: impl BufRead, mut other: i
             0 if a.is_empty() && b.is_empty() => return Ok(found),
             0 => found.count(Different, &a, &b),
             _ if length < size => found.count(compare("", &a, &b), &a, &b),
-            _ => found.count(compare(results(&record), &a, &b), &a, &b),
+            _ => {
+                let request = asked_in(&record);
+                let alike = |a: &[u8]| compare(kinds(request[0]).1, a, &b);
+                found.judge(alike, || line_of(&request, Whose::Ours).into_bytes(), &a, &b);
+            }
         }
     }
 }
@@ -52,17 +65,29 @@ fn look(program: &str, mut asked: impl Read, mut one: impl BufRead, mut other: i
 /// There has to be a record for each whole sample after the first.
 fn look_at_records(mut asked: impl Read, mut one: impl Read, mut other: impl Read) -> io::Result<Found> {
     let mut found = Found::new("record", shown_record);
-    let (mut sample, mut a, mut b) = ([0; SAMPLE_BYTES], [0; walk::RECORD], [0; walk::RECORD]);
-    read_full(&mut asked, &mut [0; WINDOW_BYTES + SAMPLE_BYTES])?;
+    let (mut window, mut sample) = ([0; WINDOW_BYTES], [0; SAMPLE_BYTES]);
+    let (mut a, mut b) = ([0; walk::RECORD], [0; walk::RECORD]);
+    read_full(&mut asked, &mut window)?;
+    read_full(&mut asked, &mut sample)?;
     loop {
+        let before = sample;
         let whole = read_full(&mut asked, &mut sample)? == SAMPLE_BYTES;
         let (a_length, b_length) = (read_full(&mut one, &mut a)?, read_full(&mut other, &mut b)?);
         match (a_length, b_length) {
             (0, 0) if !whole => return Ok(found),
-            (walk::RECORD, walk::RECORD) if whole => found.count(compare_edges(&a, &b), &a, &b),
+            (walk::RECORD, walk::RECORD) if whole => {
+                let alike = |a: &[u8]| compare_edges(a.try_into().expect("a record"), &b);
+                found.judge(alike, || our_record(&window, &before, &sample).to_vec(), &a, &b);
+            }
             _ => found.count(Different, &a[..a_length], &b[..b_length]),
         }
     }
+}
+
+fn our_record(window: &[u8; WINDOW_BYTES], a: &[u8; SAMPLE_BYTES], b: &[u8; SAMPLE_BYTES]) -> [u8; walk::RECORD] {
+    let window: Rect = Arguments::new(&words::<4>(window)).take();
+    let [a, b] = [a, b].map(|sample| Arguments::new(&words::<2>(sample)).take::<Point>());
+    trace::cut(Whose::Ours, a, b, &window)
 }
 
 struct Found {
@@ -71,13 +96,30 @@ struct Found {
     shown: fn(&[u8]) -> String,
     total: u64,
     zeros: u64,
+    clamped: u64,
     different: u64,
     first_different: Vec<String>,
 }
 
 impl Found {
     fn new(name: &'static str, shown: fn(&[u8]) -> String) -> Found {
-        Found { name, shown, total: 0, zeros: 0, different: 0, first_different: Vec::new() }
+        Found { name, shown, total: 0, zeros: 0, clamped: 0, different: 0, first_different: Vec::new() }
+    }
+
+    /// Where no value leaves its ends it has to be the crate's; else what the crate gives with the clamp.
+    fn judge(
+        &mut self,
+        alike: impl Fn(&[u8]) -> Likeness,
+        with_clamp: impl FnOnce() -> Vec<u8>,
+        crates: &[u8],
+        other: &[u8],
+    ) {
+        let likeness = alike(crates);
+        match watch(with_clamp) {
+            (clamped, true) if alike(&clamped) == Different => self.count(Different, &clamped, other),
+            (_, true) if likeness == Different => self.count(Clamped, crates, other),
+            _ => self.count(likeness, crates, other),
+        }
     }
 
     fn count(&mut self, likeness: Likeness, a: &[u8], b: &[u8]) {
@@ -85,6 +127,7 @@ impl Found {
         match likeness {
             Same => {}
             SameButForAZero => self.zeros += 1,
+            Clamped => self.clamped += 1,
             Different => {
                 self.different += 1;
                 if self.first_different.len() < SHOWN {
@@ -99,9 +142,11 @@ impl Found {
 impl fmt::Display for Found {
     fn fmt(&self, f: &mut fmt::Formatter) -> fmt::Result {
         write!(f, "{} {}s, ", self.total, self.name)?;
-        match self.different {
-            0 => write!(f, "all the same")?,
-            different => write!(f, "{different} different")?,
+        match (self.different, self.clamped) {
+            (0, 0) => write!(f, "all the same")?,
+            (0, clamped) => write!(f, "all the same but for {clamped} explained by the clamp")?,
+            (different, 0) => write!(f, "{different} different")?,
+            (different, clamped) => write!(f, "{different} different, {clamped} explained by the clamp")?,
         }
         if self.zeros > 0 {
             write!(f, " ({} with a zero of the other sign)", self.zeros)?;
@@ -189,6 +234,60 @@ mod tests {
         assert_eq!(found_records(&records, &records[..79]), (1, 0), "a torn record");
         assert_eq!(found_records(&records[..40], &records[..40]), (1, 0), "one is missing in both");
         assert_eq!(found_records(&[0; 120], &[0; 120]), (1, 0), "nobody asked for the last");
+    }
+
+    /// A value past an end, one that is not, and one whose place is not between the ends: the crate's lines against
+    /// these, how many are different and how many explained.
+    fn explained(lines: [u64; 3]) -> (u64, u64) {
+        let questions = [[5, 0, 10, PAST[0], PAST[1]], [0, 0, 10, PAST[0], PAST[1]], [20, 0, 10, PAST[0], PAST[1]]];
+        let (mut asked, mut crates) = (Vec::new(), String::new());
+        for words in questions {
+            write_words(&mut asked, &request(30, &words)).expect("memory can be written");
+            crates += &line_of(&request(30, &words), Whose::Crates);
+        }
+        let other = lines.map(|word| format!("0 {word:016x}\n")).concat();
+        let found = look("answers", asked.as_slice(), crates.as_bytes(), other.as_bytes()).expect("memory can be read");
+        (found.different, found.clamped)
+    }
+
+    /// -0.06 and 0.04: in the middle of 0 to 10 steps the crate gives the float above 0.04.
+    const PAST: [u64; 2] = [0xbfae_b851_eb85_1eb8, 0x3fa4_7ae1_47ae_147b];
+
+    #[test]
+    fn the_clamp() {
+        let beyond = 0.14f64.to_bits();
+        let crates = [PAST[1] + 1, PAST[0], beyond];
+        assert_eq!(explained(crates), (1, 0), "the crate itself");
+        assert_eq!(explained([PAST[1], PAST[0], beyond]), (0, 1), "the end that was passed");
+        assert_eq!(explained([PAST[0], PAST[0], beyond]), (1, 0), "the other end");
+        assert_eq!(explained([PAST[1] - 1, PAST[0], beyond]), (1, 0), "no end");
+        assert_eq!(explained([PAST[1], PAST[0] - 1, beyond]), (1, 1), "nothing left its ends");
+        assert_eq!(explained([PAST[1], PAST[0], PAST[1]]), (1, 1), "clamped where x is beyond the ends");
+    }
+
+    #[test]
+    fn the_clamp_in_a_trace() {
+        let window = [5, f64::to_bits(-1.0), f64::to_bits(1.0), f64::to_bits(1.0)];
+        let mut samples = Vec::new();
+        let words = [&window[..], &[0, PAST[0], 10, PAST[1], 10, PAST[1]]].concat();
+        write_words(&mut samples, &words).expect("memory can be written");
+        let floats = |words: &[u64]| words.iter().map(|word| f64::from_bits(*word)).collect::<Vec<_>>();
+        let records = |whose| {
+            let mut buffer = [0; 80];
+            let window = Arguments::new(&window).take();
+            trace::cut_trace(whose, &floats(&words[4..]), &window, &mut buffer).expect("there is room");
+            buffer
+        };
+        let (crates, mut ours) = (records(Whose::Crates), records(Whose::Ours));
+        assert_eq!((crates[0], ours[0]), (1, 0), "missed, and kept");
+        let found = |ours: &[u8]| look_at_records(samples.as_slice(), &crates[..], ours).expect("memory can be read");
+        assert_eq!((found(&ours).different, found(&ours).clamped), (0, 1));
+        assert_eq!((found(&crates).different, found(&crates).clamped), (1, 0), "the crate itself");
+        ours[8] ^= 1;
+        assert_eq!((found(&ours).different, found(&ours).clamped), (1, 0), "another point");
+        ours[8] ^= 1;
+        ours[40] = 1;
+        assert_eq!((found(&ours).different, found(&ours).clamped), (1, 1), "a whole edge missed");
     }
 
     #[test]

@@ -2,12 +2,17 @@
 
 use crate::floats::{neighbour, zero, Family};
 use crate::random::Random;
-use crate::records::edge;
+use crate::records::{edge, Record};
 use crate::requests::{zero_or_not, Word, Word::Float, Word::Plain};
 
 /// Arguments for operations 30 to 35, from one edge and its window.
 pub fn around_edge(random: &mut Random, operation: u64) -> Vec<Word> {
-    let [ax, ay, bx, by, low_x, low_y, high_x, high_y] = edge(random);
+    let edge = edge(random);
+    around(random, operation, edge)
+}
+
+pub fn around(random: &mut Random, operation: u64, edge: Record) -> Vec<Word> {
+    let [ax, ay, bx, by, low_x, low_y, high_x, high_y] = edge;
     let (box_x, box_y) = (bound(random, ax, bx, low_x, high_x), bound(random, ay, by, low_y, high_y));
     let negative_slope = (ax > bx) != (ay > by);
     let slope = if random.once_in(8) { zero_or_not(random) } else { negative_slope.into() };

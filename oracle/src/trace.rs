@@ -6,6 +6,7 @@ use crate::number::{Answer, BAD_TRACE, BAD_WINDOW, BUFFER_TOO_SHORT, DONE};
 use crate::r2::{point::Point, rect::Rect};
 use crate::stream::{read_full, words};
 use crate::walk::{record, RECORD};
+use crate::whose::Whose;
 use crate::words::Arguments;
 use std::io::{self, BufReader, BufWriter, Read, Write};
 
@@ -21,14 +22,14 @@ type Counts = [usize; 4];
 const EDGES: usize = 3;
 
 /// Gives back the counts. With a number instead, the buffer is as it was.
-pub fn cut_trace(samples: &[f64], window: &Rect, buffer: &mut [u8]) -> Answer<Counts> {
+pub fn cut_trace(whose: Whose, samples: &[f64], window: &Rect, buffer: &mut [u8]) -> Answer<Counts> {
     let (samples, odd) = samples.as_chunks();
     if !odd.is_empty() || samples.len() > SAMPLES {
         return Err(BAD_TRACE);
     }
     admit_window(window)?;
     let samples: Vec<Point> = samples.iter().map(|[x, y]| Point { x: *x, y: *y }).collect();
-    let records: Vec<_> = samples.windows(2).map(|edge| cut(edge[0], edge[1], window)).collect();
+    let records: Vec<_> = samples.windows(2).map(|edge| cut(whose, edge[0], edge[1], window)).collect();
     if buffer.len() / RECORD < records.len() {
         return Err(BUFFER_TOO_SHORT);
     }
@@ -41,9 +42,9 @@ pub fn cut_trace(samples: &[f64], window: &Rect, buffer: &mut [u8]) -> Answer<Co
 }
 
 /// The record of an edge: the number of its answer and, where it is kept, its points.
-fn cut(a: Point, b: Point, window: &Rect) -> [u8; RECORD] {
+pub fn cut(whose: Whose, a: Point, b: Point, window: &Rect) -> [u8; RECORD] {
     const ZERO: Point = Point { x: 0.0, y: 0.0 };
-    match clip_edge(a, b, window.clone()) {
+    match clip_edge(whose, a, b, window.clone()) {
         Ok((kept_a, kept_b)) => record(DONE, kept_a, kept_b),
         Err(number) => record(number, ZERO, ZERO),
     }
@@ -88,7 +89,7 @@ fn write_records(input: &mut impl Read, window: &Rect, output: &mut impl Write) 
         }
         let sample: Point = Arguments::new(&words::<2>(&bytes)).take();
         if let Some(before) = before.replace(sample) {
-            let record = cut(before, sample, window);
+            let record = cut(Whose::Crates, before, sample, window);
             count(&mut counts, &record);
             output.write_all(&record)?;
         }
@@ -101,7 +102,6 @@ mod tests {
     use crate::answers::{line_of, request};
     use crate::clip::LIMIT;
     use crate::stream::hex;
-    use crate::zeros::Zeros;
 
     const NAN: f64 = f64::NAN;
     /// The window of P1 and P2: low corner, high corner.
@@ -112,7 +112,7 @@ mod tests {
 
     fn ask(count: u64, length: u64, window: [f64; 4], floats: &[f64]) -> String {
         let floats: Vec<u64> = window.iter().chain(floats).map(|float| float.to_bits()).collect();
-        line_of(&request(61, &[&[count, length], &floats[..]].concat()), Zeros::Crates)
+        line_of(&request(61, &[&[count, length], &floats[..]].concat()), Whose::Crates)
     }
 
     fn line(number: u8, counts: Counts, bytes: &str) -> String {
@@ -203,7 +203,7 @@ mod tests {
     fn the_program() {
         let mut input: Vec<u8> = TRACE.iter().flat_map(|float| float.to_le_bytes()).collect();
         let mut expected = [0; 5 * RECORD];
-        let counts = cut_trace(&TRACE, &window(), &mut expected).expect("there is room");
+        let counts = cut_trace(Whose::Crates, &TRACE, &window(), &mut expected).expect("there is room");
         for torn in [0, 1, 15] {
             input.resize(8 * TRACE.len() + torn, 0);
             let mut records = Vec::new();
@@ -216,7 +216,7 @@ mod tests {
     fn the_longest_trace() {
         let mut buffer = vec![0xa5; RECORD * SAMPLES];
         let mut number = |floats: usize, length: usize| {
-            let answer = cut_trace(&vec![1.0; floats], &window(), &mut buffer[..length]);
+            let answer = cut_trace(Whose::Crates, &vec![1.0; floats], &window(), &mut buffer[..length]);
             answer.map_or_else(|number| number, |_| DONE)
         };
         let room = RECORD * (SAMPLES - 1);

@@ -1,13 +1,6 @@
 //! The zeros that the crate leaves open. Its unions and intersections of intervals go by the standard library's `min`
 //! and `max`, which may give either of two zeros; our definitions keep the first interval's.
 
-/// Whose signs such zeros are shown with.
-#[derive(Clone, Copy)]
-pub enum Zeros {
-    Crates,
-    Ours,
-}
-
 /// The words of an interval's ends among a rectangle's, axis by axis.
 const AXES: [[usize; 2]; 2] = [[0, 2], [1, 3]];
 

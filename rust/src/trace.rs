@@ -22,7 +22,8 @@ pub struct Counts {
 /// from the buffer's first byte on: the number of the edge's answer (0 kept, 1 missed, 2 a dead sample) and seven zero
 /// bytes, then a.x, a.y, b.x, b.y of the kept points, little-endian, zeros unless it is kept. The samples are x and y
 /// in turn; no sample or one has no edge. A dead sample is refused in the records of the edges that touch it, and
-/// nowhere else. So a trace cut at a sample, which is sent in both parts, gives the same records.
+/// nowhere else. So a trace cut at a sample, which is sent in both parts, gives the same records. An edge between live
+/// samples is kept where one of them lies in the window, with that one as it was.
 ///
 /// Refused with BadTrace, BadWindow, ShortBuffer. The bytes after the last record stay as they were, and where it is
 /// refused all do.

@@ -1,4 +1,4 @@
--- The values that a cut asks for. What holds of every one holds by the sides that it asks at; from the edge's own box those lie in that box, since what is left of it stays a part of it.
+-- The values that a cut asks for. What holds of every one holds by the sides that it asks at; from the edge's own box, or a part of it, those lie in that box, since what is left of it stays a part of it.
 use mathlib.Core.Path.{_≡_, refl, ap}
 use mathlib.Core.Bool.{Bool, true, false, not}
 use mathlib.Core.List.{List, [], _∷_, _++_, append-assoc}
@@ -7,18 +7,18 @@ use Rattle.float.specs.Choice.{when_then_else_}
 use Rattle.float.proofs.Choice.{cases, and-parts, and-both}
 use Rattle.plane.specs.Interval.{between, endOf}
 use Rattle.plane.specs.Rect.{boxOf}
-use Rattle.plane.specs.Within.{In, Some, Part, SomeRect}
+use Rattle.plane.specs.Within.{In, Some, Part, SomeRect, PartRect}
 use Rattle.plane.specs.declared.point.Point.{Point}
 use Rattle.plane.specs.declared.interval.Interval.{Interval}
 use Rattle.plane.specs.declared.rect.Rect.{Rect}
-use Rattle.plane.proofs.Parts.{part-refl, part-trans, part-in}
+use Rattle.plane.proofs.Parts.{part-trans, part-in}
 use Rattle.clip.specs.declared.compute.Both.{Both}
 use Rattle.clip.specs.declared.compute.AxisCut.{AxisCut}
 use Rattle.clip.specs.declared.compute.AxisCut.the-variants.{Left, Gone}
 use Rattle.clip.specs.Cut.{negativeSlope, valueAt, inward, withEnd, movedEnd, otherMoved, sideCut, thenHigh, axisCut, afterY, afterX, thenY, boxCut}
-use Rattle.clip.specs.Values.{every, sideAsks, highAsks, axisAsks, yAsks, boxAsks}
+use Rattle.clip.specs.Values.{every, sideAsks, highAsks, axisAsks, yAsks, asksOnX, asksOnY, boxAsks}
 use Rattle.clip.proofs.Sides.{upTo, inward-up, not-inward, up-num, end-num}
-use Rattle.clip.proofs.Moves.{side-left, axis-left}
+use Rattle.clip.proofs.Moves.{side-part, axis-left}
 
 every-both : (test : Float → Bool) (xs ys : List Float) → every test xs ≡ true → every test ys ≡ true → every test (xs ++ ys) ≡ true
 unfolding every
@@ -26,11 +26,11 @@ every-both test [] ys p q = q
 every-both test (x ∷ xs) ys p q = let (h, t) = and-parts _ _ p in and-both _ _ h (every-both test xs ys t q)
 
 -- the side lies inward of the end d of i, and not of the other
-abbrev Asked : Bool → Interval → Interval → Type 0
+abbrev pub Asked : Bool → Interval → Interval → Type 0
 Asked d i w = (inward d (endOf w d) (endOf i d) ≡ true) × (inward d (endOf w d) (endOf i (not d)) ≡ false)
 
 -- so it lies in i
-asked-in : (d : Bool) (i w : Interval) → Some i → Asked d i w → In i (endOf w d)
+pub asked-in : (d : Bool) (i w : Interval) → Some i → Asked d i w → In i (endOf w d)
 asked-in d i w some (p, q) =
     let u = inward-up d _ _ p in
     go d (not-inward d _ _ (up-num d _ _ u .0) (end-num i (not d) some) q) u
@@ -61,13 +61,15 @@ module _ (test : Float → Bool) where
       go (Left s) e = unfold highAsks in side-asks true a0 b0 (s .this) a1 b1 w (h s e)
       go Gone e = unfold highAsks every in refl
 
-  box-asks : (a b : Point) (w r : Rect)
-      → every test (axisAsks (a .x) (b .x) (r .x) (a .y) (b .y) (r .y) (negativeSlope a b) (w .x)) ≡ true
+  pub box-asks : (a b : Point) (w r : Rect) → every test (asksOnX a b w r) ≡ true → every test (asksOnY a b w r) ≡ true → every test (boxAsks a b w r) ≡ true
+  unfolding boxAsks
+  box-asks a b w r h k = every-both test _ _ h k
+
+  y-asks : (a b : Point) (w r : Rect)
       → ((s : Both) → axisCut (a .x) (b .x) (r .x) (a .y) (b .y) (r .y) (negativeSlope a b) (w .x) ≡ Left s
       → every test (axisAsks (a .y) (b .y) (s .other) (a .x) (b .x) (s .this) (negativeSlope a b) (w .y)) ≡ true)
-      → every test (boxAsks a b w r) ≡ true
-  unfolding boxAsks
-  box-asks a b w r h k = every-both test _ _ h (go (axisCut (a .x) (b .x) (r .x) (a .y) (b .y) (r .y) (negativeSlope a b) (w .x)) refl)
+      → every test (asksOnY a b w r) ≡ true
+  y-asks a b w r k = go (axisCut (a .x) (b .x) (r .x) (a .y) (b .y) (r .y) (negativeSlope a b) (w .x)) refl
     where
       go : (m : AxisCut) → axisCut (a .x) (b .x) (r .x) (a .y) (b .y) (r .y) (negativeSlope a b) (w .x) ≡ m → every test (yAsks a b (negativeSlope a b) (w .y) m) ≡ true
       go (Left s) e = unfold yAsks in k s e
@@ -80,27 +82,28 @@ module _ (test : Float → Bool) where
 
   pub box-any : (a b : Point) (w r : Rect) → ((d : Bool) → test (valueAt (endOf (w .x) d) (a .x) (b .x) (a .y) (b .y)) ≡ true)
       → ((d : Bool) → test (valueAt (endOf (w .y) d) (a .y) (b .y) (a .x) (b .x)) ≡ true) → every test (boxAsks a b w r) ≡ true
-  box-any a b w r h k = box-asks a b w r (axis-any _ _ _ _ _ _ _ (w .x) h) (λ s e. axis-any _ _ _ _ _ _ _ (w .y) k)
+  box-any a b w r h k = box-asks a b w r (axis-any _ _ _ _ _ _ _ (w .x) h) (y-asks a b w r (λ s e. axis-any _ _ _ _ _ _ _ (w .y) k))
 
   -- ---- a part of the edge's own box: what holds at the sides in that box
-  axis-own : (a0 b0 : Float) (this : Interval) (a1 b1 : Float) (other : Interval) (neg : Bool) (w : Interval) → Part this (between a0 b0) → Some other → Some w
+  pub axis-own : (a0 b0 : Float) (this : Interval) (a1 b1 : Float) (other : Interval) (neg : Bool) (w : Interval) → Part this (between a0 b0) → Some w
       → ((d : Bool) → In (between a0 b0) (endOf w d) → test (valueAt (endOf w d) a0 b0 a1 b1) ≡ true) → every test (axisAsks a0 b0 this a1 b1 other neg w) ≡ true
-  axis-own a0 b0 this a1 b1 other neg w part some n h =
+  axis-own a0 b0 this a1 b1 other neg w part n h =
       axis-asks a0 b0 this a1 b1 other neg w (at false this part)
-      (λ s e. at true (s .this) (part-trans _ _ _ (side-left false a0 b0 this a1 b1 other neg w s (part .some) some (end-num w false n) e .0 .on-this) part))
+      (λ s e. at true (s .this) (part-trans _ _ _ (side-part false a0 b0 this a1 b1 other neg w s (part .some) (end-num w false n) e .0) part))
     where
       at : (d : Bool) (i : Interval) → Part i (between a0 b0) → Asked d i w → test (valueAt (endOf w d) a0 b0 a1 b1) ≡ true
       at d i p q = h d (part-in i _ _ p (asked-in d i w (p .some) q))
 
-  pub box-own : (a b : Point) (w : Rect) → SomeRect (boxOf a b) → SomeRect w
-      → ((d : Bool) → In (between (a .x) (b .x)) (endOf (w .x) d) → test (valueAt (endOf (w .x) d) (a .x) (b .x) (a .y) (b .y)) ≡ true)
-      → ((d : Bool) → In (between (a .y) (b .y)) (endOf (w .y) d) → test (valueAt (endOf (w .y) d) (a .y) (b .y) (a .x) (b .x)) ≡ true)
-      → every test (boxAsks a b w (boxOf a b)) ≡ true
-  box-own a b w some n h k =
-      box-asks a b w (boxOf a b) (axis-own _ _ _ _ _ _ _ (w .x) (part-refl _ (some .x)) (some .y) (n .x) h)
-      (λ s e.
-      let c = axis-left _ _ _ _ _ _ _ _ s (some .x) (some .y) (n .x) e .0 in
-      axis-own _ _ _ _ _ _ _ (w .y) (c .on-other) (c .on-this .some) (n .y) k)
+  pub x-own : (a b : Point) (w r : Rect) → PartRect r (boxOf a b) → SomeRect w
+      → ((d : Bool) → In (between (a .x) (b .x)) (endOf (w .x) d) → test (valueAt (endOf (w .x) d) (a .x) (b .x) (a .y) (b .y)) ≡ true) → every test (asksOnX a b w r) ≡ true
+  x-own a b w r p n h = axis-own _ _ _ _ _ _ _ (w .x) (p .x) (n .x) h
+
+  pub y-own : (a b : Point) (w r : Rect) → PartRect r (boxOf a b) → SomeRect w
+      → ((d : Bool) → In (between (a .y) (b .y)) (endOf (w .y) d) → test (valueAt (endOf (w .y) d) (a .y) (b .y) (a .x) (b .x)) ≡ true) → every test (asksOnY a b w r) ≡ true
+  y-own a b w r p n h =
+      y-asks a b w r (λ s e.
+      let c = axis-left _ _ _ _ _ _ _ _ s (p .x .some) (p .y .some) (n .x) e .0 in
+      axis-own _ _ _ _ _ _ _ (w .y) (part-trans _ _ _ (c .on-other) (p .y)) (n .y) h)
 
 -- ---- a cut takes no more from the line than what it asks for: where two lines are asked for the same values, their cuts are the same
 -- the two choices of a side, one of what is asked for and one of what is made of it

@@ -1,5 +1,5 @@
 -- Where all magnitudes of an edge and a window together are at most the limit, each of them is: nothing is refused.
-use mathlib.Core.Path.{_≡_}
+use mathlib.Core.Path.{_≡_, refl}
 use mathlib.Core.Bool.{true}
 use lib.Ieee.{Float, binary64, fits, le}
 use Rattle.float.specs.Float.{_⊕_, magnitudeOf}
@@ -10,6 +10,7 @@ use Rattle.plane.specs.declared.point.Point.{Point}
 use Rattle.plane.specs.declared.interval.Interval.{Interval}
 use Rattle.plane.specs.declared.rect.Rect.{Rect}
 use Rattle.clip.specs.Refuse.{limit, coordinate, side, sidesFine, windowFine, edgeRefusal}
+use Rattle.clip.specs.Values.{every, HandedIn, floatsOf}
 use Rattle.clip.proofs.Numbers.{fine-from}
 
 -- x can be handed in
@@ -52,6 +53,12 @@ pub record AllFit (a b : Point) (w : Rect) : Type 0 where
   pub x-high : Fit (w .x .hi)
   pub y-low : Fit (w .y .lo)
   pub y-high : Fit (w .y .hi)
+
+pub all-handed : (a b : Point) (w : Rect) → AllFit a b w → HandedIn (floatsOf a b w)
+unfolding every
+all-handed a b w t =
+    and-both _ _ (t .ax .holds) (and-both _ _ (t .ay .holds) (and-both _ _ (t .bx .holds) (and-both _ _ (t .by .holds)
+    (and-both _ _ (t .x-low .holds) (and-both _ _ (t .x-high .holds) (and-both _ _ (t .y-low .holds) (and-both _ _ (t .y-high .holds) refl)))))))
 
 pub at-once : (a b : Point) (w : Rect) → AllFit a b w
     → le ((twoSizes (a .x) (b .x) ⊕ twoSizes (w .x .lo) (w .y .lo)) ⊕ (twoSizes (a .y) (b .y) ⊕ twoSizes (w .x .hi) (w .y .hi))) limit ≡ true

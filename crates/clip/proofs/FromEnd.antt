@@ -1,6 +1,6 @@
 -- The value at x worked out from the end a, a1 + (b1 - a1) * (x - a) / (b - a), where nothing is beyond 2 ^ k in size: no product of two differences overflows.
 -- Over any format, so that no power of two becomes a long numeral.
-use mathlib.Core.Path.{_≡_}
+use mathlib.Core.Path.{_≡_, _∙_}
 use mathlib.Core.Logic.{_⊎_, inl, inr}
 use mathlib.Core.Bool.{true, false}
 use Prim.Native.Nat.{ℕ, suc, _+_, _≤_, _<_}
@@ -8,15 +8,17 @@ use native.Mathlib.Nat.{pow-suc}
 use native.Mathlib.Omega.{arith}
 use lib.Pow.{pow-add}
 use lib.Ieee.{Float, Format, emax, add, sub, mul, div, le, eq}
+use borrow.Author.Tests.{le-leb, lt-leb}
 use lib.Ieee.Bits.{is-true}
 use lib.Ieee.Fits.{div-fits}
-use Rattle.float.specs.Float.{finite}
+use Rattle.float.specs.Float.{finite, magnitudeOf}
 use Rattle.float.specs.Exact.{mag}
 use Rattle.float.proofs.Order.{Num, finite-num}
 use Rattle.float.proofs.Values.{held}
+use Rattle.float.proofs.Plain.{drop-sign, le-units}
 use Rattle.float.proofs.SumOrder.{sub-up}
 use Rattle.float.proofs.UpTo.{UpTo, powerUnits}
-use Rattle.float.proofs.Bounded.{power-exactly, times-exactly, no-farther, sum-up-to, product-up-to, quotient-up-to, difference-up-to, itself-up-to, difference-some, quotient-num, sum-num}
+use Rattle.float.proofs.Bounded.{none-exactly, power-exactly, times-exactly, no-farther, sum-up-to, product-up-to, quotient-up-to, difference-up-to, itself-up-to, equal-up-to, with-none, difference-some, quotient-num, sum-num}
 
 -- nothing is beyond 2 ^ k
 pub record Modest (f : Format) (k : ℕ) (x a b a1 b1 : Float) : Type 0 where
@@ -72,3 +74,25 @@ module _ {f : Format} {k : ℕ} (room : suc k + suc k ≤ emax f) {x a b a1 b1 :
       let p = product-up-to rise u (times-exactly (suc k) (suc k) run room) (omega arith) in
       let q = quotient-up-to p run (power-exactly f (suc k) (omega arith)) (some apart) (omega arith) in
       sum-up-to (m .height-a) q (power-exactly f (suc (suc k)) (omega arith)) (simp pow-suc (omega arith)) .value .is-finite
+
+  -- ---- at x = a: a zero is added to a1, and a is the nearer end
+  module _ (low : le a x ≡ true) (high : le x a ≡ true) where
+    pub from-end-own : eq b a ≡ false → eq (add f a1 (div f (mul f (sub f b1 a1) (sub f x a)) (sub f b a))) a1 ≡ true
+    from-end-own apart =
+        let u = equal-up-to (m .at-x .value) (m .at-a .value) (part .value .is-finite) high low in
+        let p = product-up-to rise u (none-exactly f) (omega arith) in
+        with-none (m .height-a .value) (quotient-up-to p run (none-exactly f) (some apart) (omega arith))
+
+    off-a : UpTo f 0 (sub f a x)
+    off-a = equal-up-to (m .at-a .value) (m .at-x .value) (difference (m .at-a) (m .at-x) .value .is-finite) low high
+
+    off-b : UpTo f (powerUnits f (suc k)) (sub f b x)
+    off-b = difference (m .at-b) (m .at-x)
+
+    pub own-nearer : le (magnitudeOf (sub f a x)) (magnitudeOf (sub f b x)) ≡ true
+    own-nearer = le-units (drop-sign (held (off-a .value) .is-own)) (drop-sign (held (off-b .value) .is-own)) ∙ le-leb (mag f (sub f a x)) (mag f (sub f b x)) (omega (arith, off-a .size))
+
+    pub other-farther : eq b x ≡ false → le (magnitudeOf (sub f b x)) (magnitudeOf (sub f a x)) ≡ false
+    other-farther apart =
+        let h = difference-some (m .at-b .value) (m .at-x .value) apart (off-b .value .is-finite) in
+        le-units (drop-sign (held (off-b .value) .is-own)) (drop-sign (held (off-a .value) .is-own)) ∙ lt-leb (mag f (sub f b x)) (mag f (sub f a x)) (omega (arith, off-a .size))

@@ -85,19 +85,27 @@ unfolding otherMoved
 other-left i (To j) t e f = f j refl (left-same _ t e)
 other-left i Lost t e f = left-gone t e
 
-pub side-left : (d : Bool) (a0 b0 : Float) (this : Interval) (a1 b1 : Float) (other : Interval) (neg : Bool) (w : Interval) (t : Both) → Some this → Some other → Num (endOf w d)
-    → sideCut d a0 b0 this a1 b1 other neg w ≡ Left t → Cut t this other × Reach d (t .this) w
+-- what is left of this axis, whatever the other is, and of the other where it is not empty
+pub side-part : (d : Bool) (a0 b0 : Float) (this : Interval) (a1 b1 : Float) (other : Interval) (neg : Bool) (w : Interval) (t : Both) → Some this → Num (endOf w d)
+    → sideCut d a0 b0 this a1 b1 other neg w ≡ Left t → Part (t .this) this × (Some other → Part (t .other) other) × Reach d (t .this) w
 unfolding sideCut
-side-left d a0 b0 this a1 b1 other neg w t p q n e =
+side-part d a0 b0 this a1 b1 other neg w t p n e =
     split _ _ _ _ e
     (λ h g. split _ _ _ _ g (λ k c. left-gone t c) (λ k c. other-left _ _ t c (λ j m r. subst Result r (
-      record { on-this = inner this d (endOf w d) (λ c. end-num this c p) k h; on-other = moved-part other j _ _ q m },
+      inner this d (endOf w d) (λ c. end-num this c p) k h,
+      λ q. moved-part other j _ _ q m,
       subst (λ (x : Float). upTo d x (endOf w d) ≡ true) (sym (end-with this d (endOf w d))) (up-refl d (endOf w d) n),
     ))))
-    (λ h c. subst Result (left-same _ t c) (record { on-this = part-refl _ p; on-other = part-refl _ q }, not-inward d _ _ n (end-num this d p) h))
+    (λ h c. subst Result (left-same _ t c) (part-refl _ p, λ q. part-refl _ q, not-inward d _ _ n (end-num this d p) h))
   where
     Result : Both → Type 0
-    Result u = Cut u this other × Reach d (u .this) w
+    Result u = Part (u .this) this × (Some other → Part (u .other) other) × Reach d (u .this) w
+
+side-left : (d : Bool) (a0 b0 : Float) (this : Interval) (a1 b1 : Float) (other : Interval) (neg : Bool) (w : Interval) (t : Both) → Some this → Some other → Num (endOf w d)
+    → sideCut d a0 b0 this a1 b1 other neg w ≡ Left t → Cut t this other × Reach d (t .this) w
+side-left d a0 b0 this a1 b1 other neg w t p q n e =
+    let (i, j, r) = side-part d a0 b0 this a1 b1 other neg w t p n e in
+    (record { on-this = i; on-other = j q }, r)
 
 -- ---- one axis: the low side, then the high
 pub axis-left : (a0 b0 : Float) (this : Interval) (a1 b1 : Float) (other : Interval) (neg : Bool) (w : Interval) (t : Both) → Some this → Some other → Some w
@@ -141,7 +149,7 @@ box-inside a b w r k p q e = go (axisCut (a .x) (b .x) (r .x) (a .y) (b .y) (r .
     go Gone h c = inside-out k c
 
 -- ---- nothing moves where the box lies in the window
-side-stays : (d : Bool) (a0 b0 : Float) (this : Interval) (a1 b1 : Float) (other : Interval) (neg : Bool) (w : Interval) → Reach d this w
+pub side-stays : (d : Bool) (a0 b0 : Float) (this : Interval) (a1 b1 : Float) (other : Interval) (neg : Bool) (w : Interval) → Reach d this w
     → sideCut d a0 b0 this a1 b1 other neg w ≡ Left (record { this = this; other = other })
 unfolding sideCut
 side-stays d a0 b0 this a1 b1 other neg w h = sym (else-is _ _ _ _ (up-not d _ _ h) refl)

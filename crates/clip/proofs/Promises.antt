@@ -39,6 +39,8 @@ use Rattle.clip.specs.Promises.{Fine, NoWider, KeptBox, BothIn, Promises
 use Rattle.clip.proofs.Moves.{Ended, moved-wider, box-inside, box-stays}
 use Rattle.clip.proofs.Numbers.{fine-from, fine-parts, numbers}
 use Rattle.clip.proofs.Values.{fine-some, values}
+use Rattle.clip.proofs.Cases.{fine-clipped}
+use Rattle.clip.proofs.OwnEnd.{a-kept, b-kept}
 use Rattle.clip.proofs.Farthest.{is-farthest, is-nearest, nan-says-no}
 
 -- ---- what is not refused is finite, and the window is good
@@ -194,10 +196,6 @@ zero-kept : (a b : Point) (w : Rect) → numberOf (clipped a b w) ≡ done → c
 unfolding numberOf pointsOf
 zero-kept a b w = edge-cases (λ c. numberOf c ≡ done → c ≡ Kept (pointsOf c)) a b w (λ k f h e. refl) (λ e. absurd-number 1 e refl) (λ n f e. absurd (f e))
 
-fine-clipped : (a b : Point) (w : Rect) → Fine a b w → clipped a b w ≡ edgeAnswer a b (boxCut a b w (boxOf a b))
-unfolding clipped
-fine-clipped a b w f = sym (beside-done _ _ _ f)
-
 -- the ends of the first box are the edge's own
 whole-is : (a b : Point) (w : Rect) → Good a b w → ends a b (boxOf a b) ≡ whole a b
 unfolding ends second
@@ -248,6 +246,8 @@ promises = record {
   kept-points = kept-points;
   zero-kept = zero-kept;
   inside-kept = λ a b w f p. let e = inside-clipped a b w f p in (ap numberOf e, ap pointsOf e);
+  a-kept = a-kept;
+  b-kept = b-kept;
   apart-missed = λ a b w f n. ap numberOf (apart-clipped a b w f n);
   meets-share = λ a b r e. box-share r a b (and-parts _ _ e .0);
   is-farthest = is-farthest;

@@ -1,11 +1,11 @@
 -- One argument for both ends of an interval: the order as seen from the high end, or from the low.
 use mathlib.Core.Path.{_≡_, refl}
 use mathlib.Core.Bool.{Bool, true, false, not}
-use lib.Ieee.{Float, le}
+use lib.Ieee.{Float, le, eq}
 use Rattle.float.specs.Choice.{when_then_else_}
-use Rattle.float.proofs.Order.{Num, le-num, le-refl, le-trans, lt-le, not-lt, le-not-lt}
+use Rattle.float.proofs.Order.{Num, le-num, le-refl, le-trans, lt-le, not-lt, le-not-lt, eq-le}
 use Rattle.plane.specs.Interval.{endOf}
-use Rattle.plane.specs.Within.{Some, Part}
+use Rattle.plane.specs.Within.{In, Some, Part}
 use Rattle.plane.specs.declared.interval.Interval.{Interval}
 use Rattle.clip.specs.Cut.{inward, withEnd}
 
@@ -29,6 +29,11 @@ unfolding inward when_then_else_
 up-not true x y h = le-not-lt x y h
 up-not false x y h = le-not-lt y x h
 
+pub eq-not : (d : Bool) (x y : Float) → eq x y ≡ true → inward d y x ≡ false
+unfolding inward when_then_else_
+eq-not true x y h = le-not-lt x y (eq-le x y h .0)
+eq-not false x y h = le-not-lt y x (eq-le x y h .1)
+
 pub up-refl : (d : Bool) (x : Float) → Num x → upTo d x x ≡ true
 up-refl true x p = le-refl x p
 up-refl false x p = le-refl x p
@@ -47,6 +52,23 @@ pub end-with : (i : Interval) (d : Bool) (v : Float) → endOf (withEnd i d v) d
 unfolding withEnd endOf when_then_else_
 end-with i true v = refl
 end-with i false v = refl
+
+-- the other end stays
+pub end-stays : (i : Interval) (d : Bool) (v : Float) → endOf (withEnd i d v) (not d) ≡ endOf i (not d)
+unfolding withEnd endOf when_then_else_
+end-stays i true v = refl
+end-stays i false v = refl
+
+-- what lies in i lies from either end on
+pub in-up : (d : Bool) (i : Interval) (x : Float) → In i x → upTo d x (endOf i d) ≡ true
+unfolding endOf when_then_else_
+in-up true i x h = h .high
+in-up false i x h = h .low
+
+pub in-from : (d : Bool) (i : Interval) (x : Float) → In i x → upTo d (endOf i (not d)) x ≡ true
+unfolding endOf when_then_else_
+in-from true i x h = h .low
+in-from false i x h = h .high
 
 -- an end that moves inwards, and not past the other, leaves a part
 pub with-part : (i : Interval) (d : Bool) (v : Float) → upTo d (endOf i (not d)) v ≡ true → upTo d v (endOf i d) ≡ true → Part (withEnd i d v) i

@@ -1,6 +1,5 @@
--- What specs/Values.antt promises, proved: what is not refused is at most 2 ^ 500 in size, and of such values proofs/FromEnd.antt and proofs/OffLine.antt tell.
-use mathlib.Core.Path.{_≡_, refl, ap, _∙_}
-use mathlib.Core.Logic.{inl, inr}
+-- What specs/Values.antt promises, proved: what is not refused is at most 2 ^ 500 in size, and of such values proofs/Held.antt and proofs/OffLine.antt tell.
+use mathlib.Core.Path.{_≡_, refl, sym, ap, subst, _∙_}
 use mathlib.Core.Bool.{Bool, true, false, not}
 use mathlib.Core.List.{List, [], _∷_}
 use native.Mathlib.Omega.{arith}
@@ -10,67 +9,29 @@ use lib.Ieee.{Float, inf, binary64, add, sub, mul, div, neg, lt, le, eq, fits, i
 use Rattle.float.specs.Choice.{when_then_else_, _and_}
 use Rattle.float.specs.Float.{zeroF, oneF, finite, magnitudeOf}
 use Rattle.float.proofs.Choice.{cases, and-parts}
-use Rattle.float.proofs.Order.{Num, finite-num, le-refl, total}
-use Rattle.float.proofs.Sums.{eq-swap}
-use Rattle.float.proofs.UpTo.{UpTo, powerUnits, test-up-to}
+use Rattle.float.proofs.Order.{Num, finite-num}
+use Rattle.float.proofs.UpTo.{test-up-to}
 use Rattle.answer.specs.Answer.{done, missed, beside}
+use Rattle.answer.proofs.Beside.{beside-done}
 use Rattle.plane.specs.Point.{differenceOf, orthoOf}
-use Rattle.plane.specs.Interval.{from_to_, between, endOf}
+use Rattle.plane.specs.Interval.{from_to_, holds, lesser, greater, between, endOf}
 use Rattle.plane.specs.Rect.{boxOf}
 use Rattle.plane.specs.Answers.{zeroInterval}
-use Rattle.plane.specs.Within.{In, Some}
+use Rattle.plane.specs.Within.{In, Some, Part, SomeRect, PartRect}
 use Rattle.plane.specs.declared.point.Point.{Point}
 use Rattle.plane.specs.declared.interval.Interval.{Interval}
 use Rattle.plane.specs.declared.rect.Rect.{Rect}
-use Rattle.plane.proofs.Parts.{in-some, part-in}
-use Rattle.plane.proofs.Between.{between-in, between-least}
-use Rattle.clip.specs.Cut.{fromEnd, valueAt, inward, withEnd, movedEnd, otherMoved, sideCut, thenHigh, axisCut, offLine}
+use Rattle.plane.proofs.Parts.{in-some, part-refl}
+use Rattle.plane.proofs.Promises.{promises as plane}
+use Rattle.plane.proofs.Between.{between-in}
+use Rattle.clip.specs.Cut.{onLine, valueAt, inward, withEnd, movedEnd, otherMoved, sideCut, thenHigh, axisCut, offLine}
 use Rattle.clip.specs.Refuse.{coordinate, side, planeRefusal, pointFine, sidesFine, windowFine, axisRefusal, valueRefusal}
 use Rattle.clip.specs.Answers.{axesAnswer, axisAnswer, axisOrRefusal, valueOrRefusal}
-use Rattle.clip.specs.Values.{every, number, HandedIn, floatsOf, sideAsks, highAsks, axisAsks, boxAsks, twoF, tiny, Values}
+use Rattle.clip.specs.Values.{every, number, HandedIn, floatsOf, sideAsks, highAsks, axisAsks, boxAsks, twoF, tiny, OwnAsks, Values}
 use Rattle.clip.proofs.Numbers.{fine-parts}
-use Rattle.clip.proofs.FromEnd.{Modest, Along, from-end-num, from-end-finite}
+use Rattle.clip.proofs.Held.{Small, Fit, num-a, num-b, value-num, value-finite, value-level, value-between, value-at-a, value-at-b}
 use Rattle.clip.proofs.OffLine.{off-line-finite}
-use Rattle.clip.proofs.Asks.{axis-any, box-any, box-own, axis-by-asks, box-by-asks}
-
--- ---- the value at x, of floats up to 2 ^ 500
-abbrev Small : Float → Type 0
-Small x = UpTo binary64 (powerUnits binary64 500) x
-
-abbrev Fit : Float → Float → Float → Float → Float → Type 0
-Fit x a b a1 b1 = Modest binary64 500 x a b a1 b1
-
-along : (x a b : Float) → Num a → Num b → In (between a b) x → Along x a b
-along x a b p q i =
-    elim (total a b p q) [
-      | inl h ↦
-          let j = part-in _ _ x (between-least a b (from a to b) (record { low = le-refl a p; high = h }) (record { low = h; high = le-refl b q })) i in
-          inl (j .low, j .high)
-      | inr h ↦
-          let j = part-in _ _ x (between-least a b (from b to a) (record { low = h; high = le-refl a p }) (record { low = le-refl b q; high = h })) i in
-          inr (j .low, j .high)
-    ]
-
-module _ {x a b a1 b1 : Float} (m : Fit x a b a1 b1) where
-  -- from the other end
-  turned : Fit x b a b1 a1
-  turned = record { at-x = m .at-x; at-a = m .at-b; at-b = m .at-a; height-a = m .height-b; height-b = m .height-a }
-
-  from-either : (P : Float → Type 0) → P a1 → (eq b a ≡ false → P (fromEnd x a b a1 b1)) → (eq a b ≡ false → P (fromEnd x b a b1 a1)) → P (valueAt x a b a1 b1)
-  unfolding valueAt
-  from-either P e f g = cases P (eq a b) a1 _ (λ h. e) (λ h. cases P _ (fromEnd x a b a1 b1) (fromEnd x b a b1 a1) (λ k. f (eq-swap b a ∙ h)) (λ k. g h))
-
-  value-num : Num (valueAt x a b a1 b1)
-  value-num = from-either Num (finite-num _ (m .height-a .value .is-finite)) (from-end-num (omega arith) m) (from-end-num (omega arith) turned)
-
-  value-finite : In (between a b) x → finite (valueAt x a b a1 b1) ≡ true
-  value-finite i =
-      let o = along x a b (finite-num _ (m .at-a .value .is-finite)) (finite-num _ (m .at-b .value .is-finite)) i in
-      from-either (λ (v : Float). finite v ≡ true) (m .height-a .value .is-finite) (λ h. from-end-finite (omega arith) m h o) (λ h. from-end-finite (omega arith) turned h (back o))
-    where
-      back : Along x a b → Along x b a
-      back (inl p) = inr p
-      back (inr p) = inl p
+use Rattle.clip.proofs.Asks.{box-asks, axis-any, box-any, axis-own, x-own, y-own, axis-by-asks, box-by-asks}
 
 -- ---- what is not refused is small
 module _ {x : Float} (t : fits binary64 x ≡ true) where
@@ -104,29 +65,34 @@ unfolding sidesFine
 fine-some i e = and-parts _ _ e .1
 
 -- ---- interpolate
-module _ (P : Float → Type 0) (z : P zeroF) (x a b a1 b1 : Float) (h : HandedIn (x ∷ a ∷ b ∷ a1 ∷ b1 ∷ [])) where
-  told : (Fit x a b a1 b1 → P (valueAt x a b a1 b1)) → P (valueOrRefusal x a b a1 b1 .value)
+module _ (x a b a1 b1 : Float) (h : HandedIn (x ∷ a ∷ b ∷ a1 ∷ b1 ∷ [])) where
+  fine : valueRefusal x a b a1 b1 ≡ done → Fit x a b a1 b1
+  fine e =
+      let (fx, (fa, (fb, (fa1, (fb1, u))))) = each _ h in
+      let (p, q) = and-parts _ _ (fine-parts _ _ e .0) in
+      let (ab, ab1) = and-parts _ _ q in
+      let (pa, pb) = and-parts _ _ ab in
+      let (pa1, pb1) = and-parts _ _ ab1 in
+      fit (small fx p) (small fa pa) (small fb pb) (small fa1 pa1) (small fb1 pb1)
+
+  -- not refused
+  told : (P : Float → Type 0) → valueRefusal x a b a1 b1 ≡ done → (Fit x a b a1 b1 → P (valueAt x a b a1 b1)) → P (valueOrRefusal x a b a1 b1 .value)
+  told P e f = subst P (beside-done _ _ zeroF e) (f (fine e))
+
+  -- or refused: 0 then
+  told-any : (P : Float → Type 0) → P zeroF → (Fit x a b a1 b1 → P (valueAt x a b a1 b1)) → P (valueOrRefusal x a b a1 b1 .value)
   unfolding beside
-  told f = cases P (eqb (valueRefusal x a b a1 b1) done) (valueAt x a b a1 b1) zeroF (λ e. f (fine (eqb-true _ 0 e))) (λ e. z)
-    where
-      fine : valueRefusal x a b a1 b1 ≡ done → Fit x a b a1 b1
-      fine e =
-          let (fx, (fa, (fb, (fa1, (fb1, u))))) = each _ h in
-          let (p, q) = and-parts _ _ (fine-parts _ _ e .0) in
-          let (ab, ab1) = and-parts _ _ q in
-          let (pa, pb) = and-parts _ _ ab in
-          let (pa1, pb1) = and-parts _ _ ab1 in
-          fit (small fx p) (small fa pa) (small fb pb) (small fa1 pa1) (small fb1 pb1)
+  told-any P z f = cases P (eqb (valueRefusal x a b a1 b1) done) (valueAt x a b a1 b1) zeroF (λ e. f (fine (eqb-true _ 0 e))) (λ e. z)
 
 zero-finite : finite zeroF ≡ true
 unfolding ofBits finite
 zero-finite = refl
 
 never-nan : (x a b a1 b1 : Float) → HandedIn (x ∷ a ∷ b ∷ a1 ∷ b1 ∷ []) → isNan (valueOrRefusal x a b a1 b1 .value) ≡ false
-never-nan x a b a1 b1 h = told Num (finite-num _ zero-finite) x a b a1 b1 h (λ m. value-num m)
+never-nan x a b a1 b1 h = told-any x a b a1 b1 h Num (finite-num _ zero-finite) (λ m. value-num m)
 
 finite-between : (x a b a1 b1 : Float) → HandedIn (x ∷ a ∷ b ∷ a1 ∷ b1 ∷ []) → In (between a b) x → finite (valueOrRefusal x a b a1 b1 .value) ≡ true
-finite-between x a b a1 b1 h i = told (λ (v : Float). finite v ≡ true) zero-finite x a b a1 b1 h (λ m. value-finite m i)
+finite-between x a b a1 b1 h i = told-any x a b a1 b1 h (λ (v : Float). finite v ≡ true) zero-finite (λ m. value-finite m i)
 
 -- ---- the cuts
 value-number : {x a b a1 b1 : Float} → Fit x a b a1 b1 → number (valueAt x a b a1 b1) ≡ true
@@ -134,7 +100,7 @@ value-number m = ap not (value-num m)
 
 module _ (a b : Point) (w : Rect) (h : HandedIn (floatsOf a b w)) (p : (pointFine a and pointFine b) ≡ true) (q : windowFine w ≡ true) where
   -- at a side of either axis
-  along-both : ((d : Bool) → Fit (endOf (w .x) d) (a .x) (b .x) (a .y) (b .y)) × ((d : Bool) → Fit (endOf (w .y) d) (a .y) (b .y) (a .x) (b .x))
+  pub along-both : ((d : Bool) → Fit (endOf (w .x) d) (a .x) (b .x) (a .y) (b .y)) × ((d : Bool) → Fit (endOf (w .y) d) (a .y) (b .y) (a .x) (b .x))
   unfolding windowFine
   along-both =
       let (fax, (fay, (fbx, (fby, (xl, (xh, (yl, (yh, u)))))))) = each _ h in
@@ -149,52 +115,83 @@ module _ (a b : Point) (w : Rect) (h : HandedIn (floatsOf a b w)) (p : (pointFin
   any-asks : (r : Rect) → every number (boxAsks a b w r) ≡ true
   any-asks r = let (x, y) = along-both in box-any number a b w r (λ d. value-number (x d)) (λ d. value-number (y d))
 
-  own-asks : every finite (boxAsks a b w (boxOf a b)) ≡ true
+  window-some : SomeRect w
   unfolding windowFine
-  own-asks =
-      let (x, y) = along-both in
-      let (wx, wy) = and-parts _ _ q in
-      box-own finite a b w (record { x = some (x true); y = some (y true) }) (record { x = fine-some _ wx; y = fine-some _ wy }) (λ d. value-finite (x d)) (λ d. value-finite (y d))
+  window-some = let (x, y) = and-parts _ _ q in record { x = fine-some _ x; y = fine-some _ y }
+
+  pub first-some : SomeRect (boxOf a b)
+  first-some = let (x, y) = along-both in record { x = some (x true); y = some (y true) }
     where
       some : {x a b a1 b1 : Float} → Fit x a b a1 b1 → Some (between a b)
-      some {a = a} {b = b} m = in-some _ _ (between-in a b (finite-num _ (m .at-a .value .is-finite)) (finite-num _ (m .at-b .value .is-finite)) .0)
+      some {a = a} {b = b} m = in-some _ _ (between-in a b (num-a m) (num-b m) .0)
+
+  -- a part of the edge's own box, and that box itself
+  own-box : PartRect (boxOf a b) (boxOf a b)
+  own-box = record { x = part-refl _ (first-some .x); y = part-refl _ (first-some .y) }
+
+  own-asks : (r : Rect) → PartRect r (boxOf a b) → OwnAsks a b w r
+  own-asks r part =
+      let (x, y) = along-both in
+      record {
+        on-x = x-own _ a b w r part window-some (λ d i. plane .holds-in _ _ .1 (value-between (x d) i));
+        on-y = y-own _ a b w r part window-some (λ d i. plane .holds-in _ _ .1 (value-between (y d) i));
+      }
+
+  finite-asks : every finite (boxAsks a b w (boxOf a b)) ≡ true
+  finite-asks =
+      let (x, y) = along-both in
+      box-asks finite a b w (boxOf a b) (x-own finite a b w _ own-box window-some (λ d. value-finite (x d))) (y-own finite a b w _ own-box window-some (λ d. value-finite (y d)))
 
   corners-finite : (i j : Bool) → finite (offLine (orthoOf (differenceOf b a)) a w i j) ≡ true
   corners-finite i j = let (x, y) = along-both in off-line-finite (omega arith) (x i) (y j)
 
-axis-asks : (a0 b0 : Float) (i : Interval) (a1 b1 : Float) (j : Interval) (neg : Bool) (w : Interval) → HandedIn (a0 ∷ b0 ∷ a1 ∷ b1 ∷ w .lo ∷ w .hi ∷ [])
-    → axisRefusal a0 b0 i a1 b1 j w ≡ done → every number (axisAsks a0 b0 i a1 b1 j neg w) ≡ true
-axis-asks a0 b0 i a1 b1 j neg w h e =
-    let (fa0, (fb0, (fa1, (fb1, (l, (u, v)))))) = each _ h in
-    let (p, q) = fine-parts _ _ e in
-    let (p0, p1) = and-parts _ _ (and-parts _ _ p .0) in
-    let (pa0, pb0) = and-parts _ _ p0 in
-    let (pa1, pb1) = and-parts _ _ p1 in
-    axis-any number a0 b0 i a1 b1 j neg w (λ d. value-number (fit (small-end w l u q d) (small fa0 pa0) (small fb0 pb0) (small fa1 pa1) (small fb1 pb1)))
+-- one axis, at a side of it
+module _ (a0 b0 : Float) (i : Interval) (a1 b1 : Float) (j : Interval) (neg : Bool) (w : Interval) (h : HandedIn (a0 ∷ b0 ∷ a1 ∷ b1 ∷ w .lo ∷ w .hi ∷ [])) (e : axisRefusal a0 b0 i a1 b1 j w ≡ done) where
+  along-one : (d : Bool) → Fit (endOf w d) a0 b0 a1 b1
+  along-one d =
+      let (fa0, (fb0, (fa1, (fb1, (l, (u, v)))))) = each _ h in
+      let (p, q) = fine-parts _ _ e in
+      let (p0, p1) = and-parts _ _ (and-parts _ _ p .0) in
+      let (pa0, pb0) = and-parts _ _ p0 in
+      let (pa1, pb1) = and-parts _ _ p1 in
+      fit (small-end w l u q d) (small fa0 pa0) (small fb0 pb0) (small fa1 pa1) (small fb1 pb1)
+
+  axis-asks : every number (axisAsks a0 b0 i a1 b1 j neg w) ≡ true
+  axis-asks = axis-any number a0 b0 i a1 b1 j neg w (λ d. value-number (along-one d))
+
+  axis-own-asks : Part i (between a0 b0) → every (holds (between a1 b1)) (axisAsks a0 b0 i a1 b1 j neg w) ≡ true
+  axis-own-asks part = axis-own _ a0 b0 i a1 b1 j neg w part (fine-some _ (fine-parts _ _ e .1)) (λ d k. plane .holds-in _ _ .1 (value-between (along-one d) k))
 
 -- ---- two cases, computed
 infinite-elsewhere : valueOrRefusal oneF zeroF tiny zeroF oneF ≡ record { number = done; value = inf false }
-unfolding ofBits add sub mul div neg lt le eq when_then_else_ magnitudeOf coordinate planeRefusal beside valueAt
+unfolding ofBits add sub mul div neg lt le eq when_then_else_ magnitudeOf coordinate planeRefusal beside holds lesser greater between onLine valueAt
 infinite-elsewhere = refl
 
 infinite-asked : axisAsks zeroF tiny (from zeroF to twoF) zeroF oneF (from zeroF to oneF) false (from oneF to twoF) ≡ inf false ∷ []
-unfolding ofBits add sub mul div neg lt le eq when_then_else_ magnitudeOf valueAt endOf inward withEnd movedEnd otherMoved sideCut sideAsks highAsks axisAsks
+unfolding ofBits add sub mul div neg lt le eq when_then_else_ magnitudeOf holds lesser greater between onLine valueAt endOf inward withEnd movedEnd otherMoved sideCut sideAsks highAsks axisAsks
 infinite-asked = refl
 
 infinite-missed : axisOrRefusal zeroF tiny (from zeroF to twoF) zeroF oneF (from zeroF to oneF) false (from oneF to twoF) ≡ axesAnswer missed zeroInterval zeroInterval
-unfolding ofBits add sub mul div neg lt le eq when_then_else_ magnitudeOf valueAt endOf inward withEnd movedEnd otherMoved sideCut thenHigh axisCut coordinate side sidesFine planeRefusal beside axisAnswer axisOrRefusal
+unfolding ofBits add sub mul div neg lt le eq when_then_else_ magnitudeOf holds lesser greater between onLine valueAt endOf inward withEnd movedEnd otherMoved sideCut thenHigh axisCut coordinate side sidesFine planeRefusal beside axisAnswer axisOrRefusal
 infinite-missed = refl
 
 pub values : Values
 values = record {
   never-nan = never-nan;
   finite-between = finite-between;
+  between-ends = λ x a b a1 b1 h e i. told x a b a1 b1 h (In (between a1 b1)) e (λ m. value-between m i);
+  at-a = λ x a b a1 b1 h e f. told x a b a1 b1 h (λ (v : Float). eq v a1 ≡ true) e (λ m. value-at-a m f);
+  at-b = λ x a b a1 b1 h e f g. told x a b a1 b1 h (λ (v : Float). eq v b1 ≡ true) e (λ m. value-at-b m f g);
+  level = λ x a b a1 b1 e f. sym (beside-done _ _ zeroF e) ∙ value-level x a b a1 b1 f;
   infinite-elsewhere = infinite-elsewhere;
   axis-by-asks = λ a0 b0 a1 b1 c0 d0 c1 d1 this other neg w. axis-by-asks a0 b0 a1 b1 c0 d0 c1 d1 neg w this other;
   box-by-asks = box-by-asks;
-  edge-asks = λ a b w h e. let (p, q) = fine-parts _ _ e in own-asks a b w h p q;
+  edge-asks = λ a b w h e. let (p, q) = fine-parts _ _ e in finite-asks a b w h p q;
   bound-asks = λ a b w r h e. let (p, q) = fine-parts _ _ e in any-asks a b w h (and-parts _ _ p .0) q r;
   axis-asks = axis-asks;
+  edge-own-asks = λ a b w h e. let (p, q) = fine-parts _ _ e in own-asks a b w h p q (boxOf a b) (own-box a b w h p q);
+  bound-own-asks = λ a b w r h e part. let (p, q) = fine-parts _ _ e in own-asks a b w h (and-parts _ _ p .0) q r part;
+  axis-own-asks = axis-own-asks;
   infinite-asked = infinite-asked;
   infinite-missed = infinite-missed;
   corners-finite = λ a b w h e. let (p, q) = fine-parts _ _ e in corners-finite a b w h p q;

@@ -77,10 +77,17 @@ pub record KeptBox (window first box : Rect) : Type 0 where
   pub in-first : PartRect box first
   pub finite-ends : EndsRect box
 
--- both kept points lie in the rectangle
+-- the two kept points
+abbrev pub firstOf : Segment → Point
+firstOf s = at (s .ax) (s .ay)
+
+abbrev pub secondOf : Segment → Point
+secondOf s = at (s .bx) (s .by)
+
+-- both lie in the rectangle
 pub record BothIn (r : Rect) (s : Segment) : Type 0 where
-  pub a : InRect r (at (s .ax) (s .ay))
-  pub b : InRect r (at (s .bx) (s .by))
+  pub a : InRect r (firstOf s)
+  pub b : InRect r (secondOf s)
 
 pub record Promises : Type 0 where
   pub numbers : Numbers
@@ -108,6 +115,11 @@ pub record Promises : Type 0 where
   pub inside-kept : (a b : Point) (window : Rect) → Fine a b window → PartRect (boxOf a b) window
       → (numberOf (clipped a b window) ≡ done) × (pointsOf (clipped a b window) ≡ whole a b)
   pub apart-missed : (a b : Point) (window : Rect) → Fine a b window → (ShareRect (boxOf a b) window → ⊥) → numberOf (clipped a b window) ≡ missed
+  -- an edge with an own end in the window is kept, wherever its other end is, and that end comes back as it was: A as A, and B as B but for a coordinate that compares equal to A's
+  pub a-kept : (a b : Point) (window : Rect) → HandedIn (floatsOf a b window) → Fine a b window → InRect window a
+      → (numberOf (clipped a b window) ≡ done) × (firstOf (pointsOf (clipped a b window)) ≡ a)
+  pub b-kept : (a b : Point) (window : Rect) → HandedIn (floatsOf a b window) → Fine a b window → InRect window b
+      → (numberOf (clipped a b window) ≡ done) × (secondOf (pointsOf (clipped a b window)) ≡ secondOf (whole a b))
   -- where edge_intersects_rect says yes the boxes share a point, NaN and infinities included
   pub meets-share : (a b : Point) (r : Rect) → edgeMeets a b r ≡ true → ShareRect r (boxOf a b)
   -- its two corners are the farthest along the normal and the nearest, of those whose place is no NaN

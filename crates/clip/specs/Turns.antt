@@ -1,19 +1,22 @@
--- The same cut side by side, as the code's one loop goes: so many sides in turn, the axes changing places after each high one. No entry's contract and no promise cites it: a reader of those can pass it over.
+-- The same cut side by side, as the code's one loop goes: so many sides in turn, the axes changing places after each high one. In the edge's own box a value of the line is held only where it would lose the edge; proofs/OwnBox.antt has why that is the same. No entry's contract and no promise cites it: a reader of those can pass it over.
 use Prim.Native.Nat.{ℕ, zero, suc}
-use mathlib.Core.Bool.{Bool, true, false}
-use lib.Ieee.{Float}
-use Rattle.float.specs.Choice.{when_then_else_}
+use mathlib.Core.Bool.{Bool, true, false, not}
+use lib.Ieee.{Float, lt, eq, unlike}
+use Rattle.float.specs.Choice.{when_then_else_, _and_}
+use Rattle.plane.specs.Interval.{endOf}
 use Rattle.plane.specs.Rect.{_by_}
 use Rattle.plane.specs.declared.point.Point.{Point}
 use Rattle.plane.specs.declared.interval.Interval.{Interval}
 use Rattle.plane.specs.declared.rect.Rect.{Rect}
 use Rattle.clip.specs.declared.compute.Axis.{Axis}
+use Rattle.clip.specs.declared.compute.Moved.{Moved}
+use Rattle.clip.specs.declared.compute.Moved.the-variants.{Lost}
 use Rattle.clip.specs.declared.compute.Both.{Both}
 use Rattle.clip.specs.declared.compute.AxisCut.{AxisCut}
 use Rattle.clip.specs.declared.compute.AxisCut.the-variants.{Left, Gone}
 use Rattle.clip.specs.declared.compute.BoxCut.{BoxCut}
 use Rattle.clip.specs.declared.compute.BoxCut.the-variants.{Inside, Outside}
-use Rattle.clip.specs.Cut.{sideCut}
+use Rattle.clip.specs.Cut.{onLine, valueAt, inward, movedEnd, sideWith}
 
 abbrev pub axisWith : Float → Float → Interval → Interval → Axis
 axisWith a b bound clip = record { a = a; b = b; bound = bound; clip = clip }
@@ -29,18 +32,44 @@ axisY a b window box = axisWith (a .y) (b .y) (box .y) (window .y)
 abbrev pub boundedBy : Axis → Interval → Axis
 boundedBy t i = axisWith (t .a) (t .b) i (t .clip)
 
+-- ---- an end moved to the line's value
+
+-- where a side cuts this axis, the edge's own end of the other that stays: the coordinate of the point at this axis' other end
+unfoldable pub ownEnd : Bool → Axis → Axis → Float
+ownEnd high this other = when unlike high (lt (this .b) (this .a)) then other .a else other .b
+
+-- past the end that stays: lost, unless that is still the edge's own
+unfoldable pub stayed : Interval → Bool → Float → Moved
+stayed i high own = when eq (endOf i (not high)) own then movedEnd i high own else Lost
+
+-- by a value of the line that is not held
+unfoldable pub ownMoved : Interval → Bool → Float → Float → Moved
+ownMoved i high v own =
+    when inward high v (endOf i high) and inward high v (endOf i (not high)) then stayed i high own
+    else movedEnd i high v
+
+-- in the edge's own box, or in any
+unfoldable pub lineMoved : Bool → Bool → Axis → Axis → Bool → Moved
+lineMoved own high this other end =
+    let side = endOf (this .clip) high in
+    when own then ownMoved (other .bound) end (onLine side (this .a) (this .b) (other .a) (other .b)) (ownEnd high this other)
+    else movedEnd (other .bound) end (valueAt side (this .a) (this .b) (other .a) (other .b))
+
+-- ---- the sides
+
 -- the cut of one side, on two axes
-abbrev pub turnCut : Bool → Axis → Axis → Bool → AxisCut
-turnCut high this other negative = sideCut high (this .a) (this .b) (this .bound) (other .a) (other .b) (other .bound) negative (this .clip)
+unfoldable pub turnCut : Bool → Bool → Axis → Axis → Bool → AxisCut
+turnCut own high this other negative =
+    sideWith high (this .bound) (other .bound) (this .clip) (lineMoved own high this other (unlike high negative))
 
 unfoldable pub whereLeft : AxisCut → (Both → BoxCut) → BoxCut
 whereLeft (Left s) rest = rest s
 whereLeft Gone rest = Outside
 
 -- so many sides, from the low or the high one of the first axis on
-unfoldable pub sidesCut : ℕ → Bool → Axis → Axis → Bool → BoxCut
-sidesCut zero high this other negative = Inside (this .bound by other .bound)
-sidesCut (suc k) high this other negative =
-    whereLeft (turnCut high this other negative) (λ (s : Both).
-    when high then sidesCut k false (boundedBy other (s .other)) (boundedBy this (s .this)) negative
-    else sidesCut k true (boundedBy this (s .this)) (boundedBy other (s .other)) negative)
+unfoldable pub sidesCut : Bool → ℕ → Bool → Axis → Axis → Bool → BoxCut
+sidesCut own zero high this other negative = Inside (this .bound by other .bound)
+sidesCut own (suc k) high this other negative =
+    whereLeft (turnCut own high this other negative) (λ (s : Both).
+    when high then sidesCut own k false (boundedBy other (s .other)) (boundedBy this (s .this)) negative
+    else sidesCut own k true (boundedBy this (s .this)) (boundedBy other (s .other)) negative)

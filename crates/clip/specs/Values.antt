@@ -1,18 +1,18 @@
--- What is promised of the value at x, on which every cut rests: it is never a NaN, and it is finite where x lies from a to b; and of a corner's place off the line, on which edge_intersects_rect rests: it is finite.
+-- What is promised of the value at x, on which every cut rests: it is never a NaN, and where x lies from a to b it is finite and lies between a1 and b1; and of a corner's place off the line, on which edge_intersects_rect rests: it is finite.
 -- Statements only; proofs/Values.antt has the proofs.
 use mathlib.Core.Path.{_≡_}
 use mathlib.Core.Bool.{Bool, true, false, not}
 use mathlib.Core.List.{List, [], _∷_, _++_}
-use lib.Ieee.{Float, inf, binary64, fits, isNan, ofBits}
+use lib.Ieee.{Float, inf, binary64, eq, fits, isNan, ofBits}
 use Rattle.float.specs.Choice.{when_then_else_, _and_}
 use Rattle.float.specs.Float.{zeroF, oneF, finite}
 use Rattle.answer.specs.Answer.{done, missed}
 use Rattle.answer.specs.declared.Real.{Real}
 use Rattle.plane.specs.Point.{differenceOf, orthoOf}
-use Rattle.plane.specs.Interval.{from_to_, between, endOf}
+use Rattle.plane.specs.Interval.{from_to_, holds, between, endOf}
 use Rattle.plane.specs.Rect.{boxOf}
 use Rattle.plane.specs.Answers.{zeroInterval}
-use Rattle.plane.specs.Within.{In}
+use Rattle.plane.specs.Within.{In, Part, PartRect}
 use Rattle.plane.specs.declared.point.Point.{Point}
 use Rattle.plane.specs.declared.interval.Interval.{Interval}
 use Rattle.plane.specs.declared.rect.Rect.{Rect}
@@ -20,7 +20,7 @@ use Rattle.clip.specs.declared.compute.Both.{Both}
 use Rattle.clip.specs.declared.compute.AxisCut.{AxisCut}
 use Rattle.clip.specs.declared.compute.AxisCut.the-variants.{Left, Gone}
 use Rattle.clip.specs.Cut.{negativeSlope, valueAt, inward, sideCut, axisCut, boxCut, offLine}
-use Rattle.clip.specs.Refuse.{edgeRefusal, boundRefusal, axisRefusal}
+use Rattle.clip.specs.Refuse.{edgeRefusal, boundRefusal, axisRefusal, valueRefusal}
 use Rattle.clip.specs.Answers.{axesAnswer, axisOrRefusal, valueOrRefusal}
 
 -- the test holds of every one
@@ -65,11 +65,16 @@ unfoldable pub yAsks : Point → Point → Bool → Interval → AxisCut → Lis
 yAsks a b negative window (Left s) = axisAsks (a .y) (b .y) (s .other) (a .x) (b .x) (s .this) negative window
 yAsks a b negative window Gone = []
 
-unfoldable pub boxAsks : Point → Point → Rect → Rect → List Float
-boxAsks a b window box =
+abbrev pub asksOnX : Point → Point → Rect → Rect → List Float
+asksOnX a b window box = axisAsks (a .x) (b .x) (box .x) (a .y) (b .y) (box .y) (negativeSlope a b) (window .x)
+
+abbrev pub asksOnY : Point → Point → Rect → Rect → List Float
+asksOnY a b window box =
     let negative = negativeSlope a b in
-    axisAsks (a .x) (b .x) (box .x) (a .y) (b .y) (box .y) negative (window .x)
-    ++ yAsks a b negative (window .y) (axisCut (a .x) (b .x) (box .x) (a .y) (b .y) (box .y) negative (window .x))
+    yAsks a b negative (window .y) (axisCut (a .x) (b .x) (box .x) (a .y) (b .y) (box .y) negative (window .x))
+
+unfoldable pub boxAsks : Point → Point → Rect → Rect → List Float
+boxAsks a b window box = asksOnX a b window box ++ asksOnY a b window box
 
 -- ---- what is promised
 
@@ -80,12 +85,26 @@ twoF = ofBits binary64 0x4000_0000_0000_0000
 abbrev pub tiny : Float
 tiny = ofBits binary64 1
 
+-- each value that is asked for lies between the edge's own two coordinates: at a side of axis x those of y, at a side of axis y those of x
+pub record OwnAsks (a b : Point) (window box : Rect) : Type 0 where
+  pub on-x : every (holds (between (a .y) (b .y))) (asksOnX a b window box) ≡ true
+  pub on-y : every (holds (between (a .x) (b .x))) (asksOnY a b window box) ≡ true
+
 pub record Values : Type 0 where
   -- interpolate: no NaN wherever x is, and finite for x from a to b, in either order
   pub never-nan : (x a b a1 b1 : Float) → HandedIn (x ∷ a ∷ b ∷ a1 ∷ b1 ∷ [])
       → isNan (valueOrRefusal x a b a1 b1 .value) ≡ false
   pub finite-between : (x a b a1 b1 : Float) → HandedIn (x ∷ a ∷ b ∷ a1 ∷ b1 ∷ []) → In (between a b) x
       → finite (valueOrRefusal x a b a1 b1 .value) ≡ true
+  -- there it lies between a1 and b1, whichever of a and b, and of a1 and b1, is the greater
+  pub between-ends : (x a b a1 b1 : Float) → HandedIn (x ∷ a ∷ b ∷ a1 ∷ b1 ∷ []) → valueRefusal x a b a1 b1 ≡ done → In (between a b) x
+      → In (between a1 b1) (valueOrRefusal x a b a1 b1 .value)
+  -- at a it is a1 and at b it is b1, as numbers; where a = b it is a1
+  pub at-a : (x a b a1 b1 : Float) → HandedIn (x ∷ a ∷ b ∷ a1 ∷ b1 ∷ []) → valueRefusal x a b a1 b1 ≡ done → eq x a ≡ true
+      → eq (valueOrRefusal x a b a1 b1 .value) a1 ≡ true
+  pub at-b : (x a b a1 b1 : Float) → HandedIn (x ∷ a ∷ b ∷ a1 ∷ b1 ∷ []) → valueRefusal x a b a1 b1 ≡ done → eq x b ≡ true → eq a b ≡ false
+      → eq (valueOrRefusal x a b a1 b1 .value) b1 ≡ true
+  pub level : (x a b a1 b1 : Float) → valueRefusal x a b a1 b1 ≡ done → eq a b ≡ true → valueOrRefusal x a b a1 b1 .value ≡ a1
   -- for x elsewhere it may be infinite
   pub infinite-elsewhere : valueOrRefusal oneF zeroF tiny zeroF oneF ≡ record { number = done; value = inf false }
   -- what is asked for is all that a cut takes from the line, but for the sign of its slope: two lines that are asked for the same values are cut alike
@@ -103,7 +122,16 @@ pub record Values : Type 0 where
   pub axis-asks : (a0 b0 : Float) (bound0 : Interval) (a1 b1 : Float) (bound1 : Interval) (negative : Bool) (window : Interval)
       → HandedIn (a0 ∷ b0 ∷ a1 ∷ b1 ∷ window .lo ∷ window .hi ∷ []) → axisRefusal a0 b0 bound0 a1 b1 bound1 window ≡ done
       → every number (axisAsks a0 b0 bound0 a1 b1 bound1 negative window) ≡ true
-  -- with a bound that is not the edge's own box one may be infinite: the edge from (0, 0) to (2 ^ -1074, 1), the bound [0, 2] by [0, 1], the window [1, 2]
+  -- clip_edge, clip_edge_bound and clip_bound_axis: with the edge's own box, or a bound within it, every value that is asked for lies between the edge's own coordinates
+  pub edge-own-asks : (a b : Point) (window : Rect) → HandedIn (floatsOf a b window) → edgeRefusal a b window ≡ done
+      → OwnAsks a b window (boxOf a b)
+  pub bound-own-asks : (a b : Point) (window bound : Rect) → HandedIn (floatsOf a b window) → boundRefusal a b window bound ≡ done → PartRect bound (boxOf a b)
+      → OwnAsks a b window bound
+  pub axis-own-asks : (a0 b0 : Float) (bound0 : Interval) (a1 b1 : Float) (bound1 : Interval) (negative : Bool) (window : Interval)
+      → HandedIn (a0 ∷ b0 ∷ a1 ∷ b1 ∷ window .lo ∷ window .hi ∷ []) → axisRefusal a0 b0 bound0 a1 b1 bound1 window ≡ done → Part bound0 (between a0 b0)
+      → every (holds (between a1 b1)) (axisAsks a0 b0 bound0 a1 b1 bound1 negative window) ≡ true
+  -- a bound that reaches beyond the edge's box can ask beyond the edge's ends, where the value stays as it is, and may be infinite:
+  -- the edge from (0, 0) to (2 ^ -1074, 1), the bound [0, 2] by [0, 1], the window [1, 2]
   pub infinite-asked : axisAsks zeroF tiny (from zeroF to twoF) zeroF oneF (from zeroF to oneF) false (from oneF to twoF) ≡ inf false ∷ []
   pub infinite-missed : axisOrRefusal zeroF tiny (from zeroF to twoF) zeroF oneF (from zeroF to oneF) false (from oneF to twoF)
       ≡ axesAnswer missed zeroInterval zeroInterval

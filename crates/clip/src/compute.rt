@@ -1,8 +1,8 @@
 // What the entries compute: any float goes in, NaN and infinities too, and nothing is refused.
 ghost use mathlib.Core.Path.{_≡_};
 ghost use mathlib.Core.Bool.{false};
-ghost use Rattle.clip.specs.Cut.{valueAt, inward, withEnd, movedEnd, sideCut, axisCut, negativeSlope, otherMoved, offLine, crossed, edgeMeets};
-ghost use Rattle.clip.specs.Turns.{axisWith, axisX, axisY, sidesCut};
+ghost use Rattle.clip.specs.Cut.{onLine, heldIn, valueAt, inward, withEnd, movedEnd, axisCut, negativeSlope, otherMoved, offLine, crossed, edgeMeets};
+ghost use Rattle.clip.specs.Turns.{axisWith, axisX, axisY, ownEnd, stayed, ownMoved, lineMoved, turnCut, sidesCut};
 use plane::Interval;
 use plane::Point;
 use plane::Rect;
@@ -44,32 +44,31 @@ pub struct Axis {
 }
 
 // The sides of the window in turn, as many as asked for: low and high on axis x, then on axis y. Of the bound of the line
-// from a to b, what is left; the axes change places after each high side.
+// from a to b, what is left; the axes change places after each high side. The bound may be any, or the edge's own box: then
+// each side that is cut at lies between the edge's ends.
 //
 // It has this shape for the compiler. With the number unknown the loop is small enough to be taken into every caller, and
 // there, where the number is a constant, it is unrolled, axes and sides are constants too, and no interval goes through
 // memory. A function between that fixes the number would be unrolled itself, grow past what is taken in, and stay a call,
 // which costs a random edge a third more. The axes change places in one branch, which adds nothing to the loop's size
 // where a choice for each float would (docs/DECISIONS.md).
-pub fn cut_sides(sides: u8, a: Point, b: Point, neg_slope: bool, clip: Rect, bound: Rect) -> BoxCut
-    ensures { λ r. ⌜ r ≡ sidesCut sides false (axisX a b clip bound) (axisY a b clip bound) «neg_slope» ⌝ }
+pub fn cut_sides(
+    sides: u8,
+    own: bool,
+    a: Point,
+    b: Point,
+    neg_slope: bool,
+    clip: Rect,
+    bound: Rect,
+) -> BoxCut
+    ensures { λ r. ⌜ r ≡ sidesCut «own» sides false (axisX a b clip bound) (axisY a b clip bound) «neg_slope» ⌝ }
 {
     let mut this = Axis::of(a.x, b.x, bound.x, clip.x);
     let mut other = Axis::of(a.y, b.y, bound.y, clip.y);
     let mut high = false;
     let mut left = sides;
     while 0 < left {
-        match clip_side(
-            high,
-            this.a,
-            this.b,
-            this.bound,
-            other.a,
-            other.b,
-            other.bound,
-            neg_slope,
-            this.clip,
-        ) {
+        match clip_side(own, high, this, other, neg_slope) {
             AxisCut::Left(s) => {
                 let t = Axis::of(this.a, this.b, s.this, this.clip);
                 let u = Axis::of(other.a, other.b, s.other, other.clip);
@@ -126,7 +125,7 @@ pub fn clip_bound_axis(
         x: bound0,
         y: bound1,
     };
-    match cut_sides(ONE_AXIS, a, b, neg_slope, window, bound) {
+    match cut_sides(ONE_AXIS, false, a, b, neg_slope, window, bound) {
         BoxCut::Inside(r) => {
             let this = r.y;
             let other = r.x;
@@ -137,34 +136,53 @@ pub fn clip_bound_axis(
 }
 
 // One side of the window, where the bound reaches past it.
-fn clip_side(
-    high: bool,
-    a0: f64,
-    b0: f64,
-    bound0: Interval,
-    a1: f64,
-    b1: f64,
-    bound1: Interval,
-    neg_slope: bool,
-    clip: Interval,
-) -> AxisCut
-    ensures { λ r. ⌜ r ≡ sideCut high a0 b0 bound0 a1 b1 bound1 «neg_slope» clip ⌝ }
+fn clip_side(own: bool, high: bool, this: Axis, other: Axis, neg_slope: bool) -> AxisCut
+    ensures { λ r. ⌜ r ≡ turnCut «own» «high» this other «neg_slope» ⌝ }
 {
-    let side = clip.at_end(high);
-    if is_inward(high, side, bound0.at_end(high)) {
-        if is_inward(high, side, bound0.at_end(!high)) {
+    let side = this.clip.at_end(high);
+    if is_inward(high, side, this.bound.at_end(high)) {
+        if is_inward(high, side, this.bound.at_end(!high)) {
             return AxisCut::Gone;
         }
-        let value = interpolate(side, a0, b0, a1, b1);
         return move_other(
-            with_end(bound0, high, side),
-            update_endpoint(bound1, high != neg_slope, value),
+            with_end(this.bound, high, side),
+            move_to_line(own, high, this, other, high != neg_slope),
         );
     }
-    AxisCut::Left(Both {
-        this: bound0,
-        other: bound1,
-    })
+    let this = this.bound;
+    let other = other.bound;
+    AxisCut::Left(Both { this, other })
+}
+
+// An end of the other axis, moved to the line's value at the side. In the edge's own box that value need not be held: past
+// the end that it moves it moves nothing, and past the end that stays `update_own` asks.
+fn move_to_line(own: bool, high: bool, this: Axis, other: Axis, high_endpoint: bool) -> Moved
+    ensures { λ r. ⌜ r ≡ lineMoved «own» «high» this other «high_endpoint» ⌝ }
+{
+    let side = this.clip.at_end(high);
+    if own {
+        let value = on_line(side, this.a, this.b, other.a, other.b);
+        return update_own(
+            other.bound,
+            high_endpoint,
+            value,
+            own_end(high, this, other),
+        );
+    }
+    let value = interpolate(side, this.a, this.b, other.a, other.b);
+    update_endpoint(other.bound, high_endpoint, value)
+}
+
+// Where a side cuts this axis, an end of the other moves and the opposite one stays. That one is the edge's own at first:
+// the coordinate of the point at this axis' other end.
+fn own_end(high: bool, this: Axis, other: Axis) -> f64
+    ensures { λ r. ⌜ r ≡ ownEnd «high» this other ⌝ }
+{
+    if high != (this.b < this.a) {
+        other.a
+    } else {
+        other.b
+    }
 }
 
 fn move_other(this: Interval, moved: Moved) -> AxisCut
@@ -201,6 +219,46 @@ fn move_end(bound: Interval, high: bool, value: f64) -> Moved
     Moved::To(bound)
 }
 
+// `update_endpoint` in the edge's own box, whose end that stays was `own` at first, with a value that is not held.
+fn update_own(bound: Interval, high_endpoint: bool, value: f64, own: f64) -> Moved
+    ensures { λ r. ⌜ r ≡ ownMoved bound «high_endpoint» value own ⌝ }
+{
+    if high_endpoint {
+        move_own(bound, true, value, own)
+    } else {
+        move_own(bound, false, value, own)
+    }
+}
+
+// The same for an end that its caller names.
+fn move_own(bound: Interval, high: bool, value: f64, own: f64) -> Moved
+    ensures { λ r. ⌜ r ≡ ownMoved bound «high» value own ⌝ }
+{
+    if is_inward(high, value, bound.at_end(high)) {
+        if is_inward(high, value, bound.at_end(!high)) {
+            return stay_at(bound, high, own);
+        }
+        return Moved::To(with_end(bound, high, value));
+    }
+    if is_inward(high, value, bound.at_end(!high)) {
+        return Moved::Lost;
+    }
+    Moved::To(bound)
+}
+
+// A value past the end that stays: the edge is lost, unless that end is still its own. There the value is held.
+fn stay_at(bound: Interval, high: bool, own: f64) -> Moved
+    ensures { λ r. ⌜ r ≡ stayed bound «high» own ⌝ }
+{
+    if bound.at_end(!high) == own {
+        if is_inward(high, own, bound.at_end(high)) {
+            return Moved::To(with_end(bound, high, own));
+        }
+        return Moved::To(bound);
+    }
+    Moved::Lost
+}
+
 // Whether x lies inward of y as seen from the high end, or from the low.
 fn is_inward(high: bool, x: f64, y: f64) -> bool
     ensures { λ r. ⌜ r ≡ inward high x y ⌝ }
@@ -223,17 +281,42 @@ fn with_end(i: Interval, high: bool, value: f64) -> Interval
     }
 }
 
-// The value at x on the line through (a, a1) and (b, b1), worked out from the nearer end.
+// The value at x on the line through (a, a1) and (b, b1): for x from a to b, in either order, it is
+// held between a1 and b1.
 pub fn interpolate(x: f64, a: f64, b: f64, a1: f64, b1: f64) -> f64
     ensures { λ r. ⌜ r ≡ valueAt x a b a1 b1 ⌝ }
 {
     if a == b {
         return a1;
     }
+    let value = on_line(x, a, b, a1, b1);
+    if Interval::from_point_pair(a, b).contains(x) {
+        return held_in(Interval::from_point_pair(a1, b1), value);
+    }
+    value
+}
+
+// The line's own value, worked out from the nearer end: rounding can leave it past a1 or b1.
+fn on_line(x: f64, a: f64, b: f64, a1: f64, b1: f64) -> f64
+    ensures { λ r. ⌜ r ≡ onLine x a b a1 b1 ⌝ }
+{
     if float::magnitude(a - x) <= float::magnitude(b - x) {
         return a1 + (b1 - a1) * (x - a) / (b - a);
     }
     b1 + (a1 - b1) * (x - b) / (a - b)
+}
+
+// The value, or the end of i that it passed.
+fn held_in(i: Interval, value: f64) -> f64
+    ensures { λ r. ⌜ r ≡ heldIn i value ⌝ }
+{
+    if value < i.lo {
+        return i.lo;
+    }
+    if i.hi < value {
+        return i.hi;
+    }
+    value
 }
 
 // Whether the boxes share a point, and the rectangle's corners lie on both sides of the line, or on

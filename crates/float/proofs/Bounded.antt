@@ -8,15 +8,15 @@ use native.Mathlib.Omega.{arith}
 use borrow.Author.Tests.{leb-true, le-leb}
 use lib.Dec.{T}
 use lib.Pow.{pow-add, pow-pos, pow-lt}
-use lib.IntN.{ℤ, pos, _+ℤ_, _-ℤ_, -ℤ-+ℤ-cancel, +ℤ-idl}
+use lib.IntN.{ℤ, pos, _+ℤ_, _-ℤ_, -ℤ-+ℤ-cancel, +ℤ-idl, +ℤ-idr}
 use lib.Signed.{leZ, ≤ℤ-refl}
 use lib.Ieee.{Float, nan, inf, fin, Format, prec, emax, low, round, neg, add, sub, mul, div, le, eq, fits, isNan}
 use lib.Ieee.Bits.{is-true}
-use lib.Ieee.Fits.{two, round-fits, add-fits}
+use lib.Ieee.Fits.{two, round-fits, add-fits, sub-fits}
 use lib.Ieee.Scale.{overflow}
 use Rattle.float.specs.Float.{finite, signBit}
 use Rattle.float.specs.Exact.{mag, signed, units, Value}
-use Rattle.float.proofs.Order.{Num, le-num, between}
+use Rattle.float.proofs.Order.{Num, finite-num, le-num, between}
 use Rattle.float.proofs.Whole.{Rep, rnd, rnd-pos, rep-small, le-or-lt}
 use Rattle.float.proofs.Values.{Is, of, held, is-finite, is-mag, round-is-rnd, round-over, add-is, neg-is, sub-is}
 use Rattle.float.proofs.Signed.{turned}
@@ -24,7 +24,8 @@ use Rattle.float.proofs.Sizes.{eq-eqZ}
 use Rattle.float.proofs.Product.{mul-is, div-is}
 use Rattle.float.proofs.Rounded.{Net, net, round-fix}
 use Rattle.float.proofs.Monotone.{le-neg, round-neg, turned-le, both-zero, monotone}
-use Rattle.float.proofs.Sums.{sum-within}
+use Rattle.float.proofs.Sums.{rndZ-fix, sum-equals, sum-within}
+use Rattle.float.proofs.SumOrder.{sub-up}
 use Rattle.float.proofs.Unit.{neg-mag, neg-value}
 use Rattle.float.proofs.Laws.{compared}
 use Rattle.float.proofs.UpTo.{UpTo, powerUnits}
@@ -33,6 +34,9 @@ use Rattle.float.proofs.UpTo.{UpTo, powerUnits}
 pub record Exactly (f : Format) (n : ℕ) : Type 0 where
   pub rep : Rep f n
   pub under : n < overflow f
+
+pub none-exactly : (f : Format) → Exactly f 0
+none-exactly f = record { rep = rep-small (pow-pos (prec f)); under = pow-pos (low f + suc (emax f)) }
 
 pub power-exactly : (f : Format) (k : ℕ) → k ≤ emax f → Exactly f (powerUnits f k)
 power-exactly f k h =
@@ -77,7 +81,7 @@ module _ {f : Format} {n : ℕ} (e : Exactly f n) (a b : ℕ) (B : 0 < b) (h : a
   plain : UpTo f n (round f false a b)
   plain =
       let l = 2 ^ low f in
-      let z : UpTo f 0 (round f false 0 1) = of-is (round-fits f false 0 1) (round-fix (rep-small (pow-pos (prec f))) (pow-pos (low f + suc (emax f))) false 0 1 (pow-pos 0) (omega arith)) (omega arith) in
+      let z : UpTo f 0 (round f false 0 1) = of-is (round-fits f false 0 1) (round-fix (none-exactly f .rep) (none-exactly f .under) false 0 1 (pow-pos 0) (omega arith)) (omega arith) in
       let y : UpTo f n (round f false n l) = of-is (round-fits f false n l) (round-fix (e .rep) (e .under) false n l (pow-pos (low f)) refl) (omega arith) in
       let p = monotone f false false 0 1 a b (pow-pos 0) B (le-leb (0 * b) (a * 1) (omega arith)) in
       let q = monotone f false false a b n l B (pow-pos (low f)) (le-leb _ _ h) in
@@ -113,12 +117,32 @@ pub itself-up-to : {f : Format} {x : Float} → Value f x → UpTo f 0 (sub f x 
 unfolding sub
 itself-up-to {f} {x} v =
     let i = held v .is-own in
-    let (o, m, k, l) = sum-within {n = 0} (rep-small (pow-pos (prec f))) (pow-pos (low f + suc (emax f))) i (neg-is i) (λ g. absurd (other (signBit x) g)) (omega arith) (omega arith) in
+    let (o, m, k, l) = sum-within {n = 0} (none-exactly f .rep) (none-exactly f .under) i (neg-is i) (λ g. absurd (other (signBit x) g)) (omega arith) (omega arith) in
     of-is (add-fits f x (neg x)) k l
   where
     other : (s : Bool) → s ≡ not s → ⊥
     other true e = true≢false e
     other false e = false≢true e
+
+-- a value less one that it compares equal to
+pub equal-up-to : {f : Format} {x y : Float} → Value f x → Value f y → finite (sub f x y) ≡ true → le x y ≡ true → le y x ≡ true → UpTo f 0 (sub f x y)
+equal-up-to {f} {x} {y} v w g p q =
+    let z = itself-up-to w in
+    let d : Value f (sub f x y) = record { is-finite = g; held = is-true _ (sub-fits f x y) } in
+    let m = finite-num _ (z .value .is-finite) in
+    let n = finite-num _ g in
+    record { value = d; size = le-trans (no-farther z d (z .value) (inl (sub-up f y x y q m n, sub-up f x y y p n m))) (z .size) }
+
+no-units : (s : Bool) → signed s 0 ≡ pos 0
+no-units true = refl
+no-units false = refl
+
+-- a value and a zero come to that value
+pub with-none : {f : Format} {x y : Float} → Value f x → UpTo f 0 y → eq (add f x y) x ≡ true
+with-none {f} {x} {y} v u =
+    let h = held v in
+    let e : mag f y ≡ 0 = omega (arith, u .size) in
+    rw (sum-equals h (h .is-own) (rw e at (held (u .value) .is-own)), no-units (signBit y), +ℤ-idr, rndZ-fix h) (eq-eqZ (units f x) (units f x) refl)
 
 -- ---- the difference of two that are not equal is not zero
 minus-zero : (x y : ℤ) → x -ℤ y ≡ pos 0 → x ≡ y
@@ -127,10 +151,6 @@ minus-zero x y e = sym (-ℤ-+ℤ-cancel x y) ∙ ap (λ (z : ℤ). z +ℤ y) e 
 infinite : (s : Bool) → finite (inf s) ≡ true → ⊥
 unfolding finite
 infinite s h = false≢true h
-
-no-units : (s : Bool) → signed s 0 ≡ pos 0
-no-units true = refl
-no-units false = refl
 
 module _ {f : Format} {x y : Float} (v : Value f x) (w : Value f y) (d : eq x y ≡ false) where
   some-units : (n : ℕ) → Net f (signBit x) (not (signBit y)) (mag f x) (mag f y) n → 0 < n

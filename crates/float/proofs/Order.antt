@@ -229,6 +229,14 @@ le-refl x p = elim (total x x p p) [ inl h ↦ h | inr h ↦ h ]
 pub le-eq : (x y : Float) → le x y ≡ true → le y x ≡ true → eq x y ≡ true
 le-eq x y p q = rw (eq-both x y, p, q)
 
+pub eq-le : (x y : Float) → eq x y ≡ true → (le x y ≡ true) × (le y x ≡ true)
+eq-le x y e = go (le x y) (le y x) refl refl (sym (eq-both x y) ∙ e)
+  where
+    go : (p q : Bool) → le x y ≡ p → le y x ≡ q → (p && q) ≡ true → (le x y ≡ true) × (le y x ≡ true)
+    go true true h k e = (h, k)
+    go true false h k e = absurd (false≢true e)
+    go false q h k e = absurd (false≢true e)
+
 pub lt-le-trans : (x y z : Float) → lt x y ≡ true → le y z ≡ true → lt x z ≡ true
 lt-le-trans x y z p q = go (le z x) refl
   where

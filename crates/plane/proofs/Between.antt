@@ -1,10 +1,10 @@
 -- The interval of two numbers: both lie in it, its ends are among them, and it is the least that has both.
 use mathlib.Core.Path.{_≡_, refl, sym, _∙_}
-use mathlib.Core.Bool.{Bool, true, false, not, _&&_, true≢false, false≢true}
+use mathlib.Core.Bool.{Bool, true, false, not, true≢false}
 use lib.Ieee.{Float, lt, le, eq}
 use Rattle.float.specs.Choice.{when_then_else_}
 use Rattle.float.proofs.Choice.{then-is, else-is}
-use Rattle.float.proofs.Order.{Num, le-num, le-refl, lt-le, not-lt, lt-not-le, le-not-lt, le-eq, eq-both}
+use Rattle.float.proofs.Order.{Num, le-num, le-refl, lt-le, not-lt, lt-not-le, le-not-lt, le-eq, eq-both, eq-le}
 use Rattle.plane.specs.Interval.{from_to_, lesser, greater, between, endOf}
 use Rattle.plane.specs.Within.{In, Part}
 use Rattle.plane.specs.declared.interval.Interval.{Interval}
@@ -51,14 +51,10 @@ between-num a b = three (λ (i : Interval). Num (i .hi) → Num (i .lo)) a b (λ
 
 -- where they compare equal the first is both ends
 pub between-equal : (a b : Float) → eq a b ≡ true → between a b ≡ from a to a
-between-equal a b e = go (le a b) refl (sym (eq-both a b) ∙ e)
+between-equal a b e = let (p, q) = eq-le a b e in three (λ (i : Interval). i ≡ from a to a) a b (none b a p) (none a b q) (λ h k. refl)
   where
     none : {A : Type 0} (x y : Float) → le y x ≡ true → lt x y ≡ true → A
     none x y p q = absurd (true≢false (sym q ∙ le-not-lt y x p))
-
-    go : (p : Bool) → le a b ≡ p → (p && le b a) ≡ true → between a b ≡ from a to a
-    go true f h = three (λ (i : Interval). i ≡ from a to a) a b (none b a f) (none a b h) (λ p q. refl)
-    go false f h = absurd (false≢true h)
 
 -- ---- the ends that a and b take: a's is a itself; b's is b, or where they compare equal, a
 pub a-end : (a b : Float) → endOf (between a b) (lt b a) ≡ a

@@ -1,10 +1,10 @@
 -- Parts of intervals and rectangles, and the values in them.
 use mathlib.Core.Path.{_≡_, sym, _∙_}
 use mathlib.Core.Bool.{Bool, true, false, true≢false}
-use lib.Ieee.{Float, le, lt}
+use lib.Ieee.{Float, le, lt, eq}
 use Rattle.float.specs.Choice.{when_then_else_}
 use Rattle.float.proofs.Choice.{cases}
-use Rattle.float.proofs.Order.{Num, le-num, le-refl, le-trans, lt-le, not-lt, le-not-lt, between}
+use Rattle.float.proofs.Order.{Num, le-num, le-refl, le-trans, lt-le, not-lt, le-not-lt, eq-le, between}
 use Rattle.plane.specs.Interval.{isEmpty, lesser, greater, endOf}
 use Rattle.plane.specs.Within.{In, Some, Part, Ends, PartRect, EndsRect}
 use Rattle.plane.specs.declared.interval.Interval.{Interval}
@@ -30,6 +30,10 @@ wider-in l u h = record { low = le-trans _ _ _ l (h .low); high = le-trans _ _ _
 
 pub part-in : (i j : Interval) (x : Float) → Part i j → In i x → In j x
 part-in i j x p h = wider-in (p .low) (p .high) h
+
+-- of two that compare equal, where one lies the other does
+pub equal-in : (i : Interval) (x y : Float) → eq x y ≡ true → In i y → In i x
+equal-in i x y e h = let (p, q) = eq-le x y e in record { low = le-trans _ _ _ (h .low) q; high = le-trans _ _ _ p (h .high) }
 
 -- a part of an interval with finite ends has finite ends
 pub part-ends : (i j : Interval) → Part i j → Ends j → Ends i

@@ -5,4 +5,5 @@ pub mod Writing
 pub mod Exits
 pub mod Joins
 pub mod Own
+pub mod OwnEnd
 pub mod Promises

@@ -23,7 +23,8 @@ use Rattle.clip.specs.declared.compute.BoxCut.the-variants.{Inside, Outside}
 use Rattle.clip.specs.declared.Segment.{Segment}
 use Rattle.clip.specs.declared.Clipped.{Clipped}
 use Rattle.clip.specs.declared.Clipped.the-variants.{Kept, Missed, Refused}
-use Rattle.clip.proofs.Turns.{four-sides}
+use Rattle.clip.proofs.AtOnce.{AllFit}
+use Rattle.clip.proofs.OwnBox.{own-answer}
 use Rattle.clip.proofs.Promises.{promises}
 use Rattle.buffer.specs.Bytes.{placed}
 use Rattle.record.specs.Record.{Ends, recordBytes}
@@ -76,13 +77,10 @@ fine-not-refused a b w f = subst (λ (c : Clipped). isRefused c ≡ false) (fine
     go Outside = unfold edgeAnswer isRefused in refl
 
 -- ---- by the way it runs: to the left, and down
-pub runs : (a b : Point) (w : Rect) → Fine a b w → (left down n : Bool) → n ≡ unlike left down → lt (b .x) (a .x) ≡ left → lt (b .y) (a .y) ≡ down
-    → (first : Rect) → first ≡ boxOf a b → (m : BoxCut) → m ≡ sidesCut 4 false (axisX a b w first) (axisY a b w first) n
+pub runs : (a b : Point) (w : Rect) → AllFit a b w → Fine a b w → (left down n : Bool) → n ≡ unlike left down → lt (b .x) (a .x) ≡ left → lt (b .y) (a .y) ≡ down
+    → (first : Rect) → first ≡ boxOf a b → (m : BoxCut) → m ≡ sidesCut true 4 false (axisX a b w first) (axisY a b w first) n
     → (r : Clipped) → r ≡ edgeAnswer a b m → r ≡ clipped a b w
-runs a b w f left down n en l d first e m em r er =
-    let k : n ≡ negativeSlope a b = en ∙ slope in
-    let c : m ≡ sidesCut 4 false (axisX a b w (boxOf a b)) (axisY a b w (boxOf a b)) (negativeSlope a b) = rw (k, e) at em in
-    er ∙ ap (edgeAnswer a b) (c ∙ four-sides a b w (boxOf a b)) ∙ fine-cut a b w f
+runs a b w t f left down n en l d = own-answer a b w t f n (en ∙ slope)
   where
     slope : unlike left down ≡ negativeSlope a b
     slope = unfold negativeSlope in rw (l, d)

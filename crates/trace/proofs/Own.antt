@@ -49,7 +49,7 @@ module _ (touches : Bool) (w : Rect) where
   record-from a (b ∷ ps) zero h = first-record _ _
   record-from a (b ∷ ps) (suc k) h = next-record k _ _ ∙ record-from b ps k (omega arith)
 
-  record-is : (ps : List Point) (k : ℕ) → k + 1 < length ps
+  pub record-is : (ps : List Point) (k : ℕ) → k + 1 < length ps
       → recordAt k (recordsOf (cutsOf touches w ps)) ≡ cutBytes (edgeCut touches w (sampleAt k ps) (sampleAt (k + 1) ps))
   unfolding cutsOf
   record-is [] k h = absurd (omega arith)

@@ -11,6 +11,7 @@ use Rattle.trace.specs.Answers.{traceAnswer}
 use Rattle.trace.specs.Promises.{Promises}
 use Rattle.trace.proofs.Cuts.{length-trace, all-kinds}
 use Rattle.trace.proofs.Own.{own-samples, two-at-most, dead}
+use Rattle.trace.proofs.OwnEnd.{end-kept, own-asks}
 use Rattle.trace.proofs.Joins.{joins}
 
 -- zeros add up too
@@ -31,5 +32,7 @@ promises =
       own-samples = own-samples;
       two-at-most = two-at-most;
       dead = dead;
+      end-kept = end-kept;
+      own-asks = own-asks;
       joins = joins;
     }

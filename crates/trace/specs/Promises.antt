@@ -1,20 +1,27 @@
 -- What is promised of a trace, whether touches are kept or not. Statements only; proofs/Promises.antt has their proofs.
 use Prim.Native.Nat.{ℕ, _+_, _-_, _*_, _/_, _%_, _<_}
 use mathlib.Core.Path.{_≡_}
-use mathlib.Core.Logic.{_↔_}
-use mathlib.Core.Bool.{Bool, false}
+use mathlib.Core.Logic.{_↔_, _⊎_}
+use mathlib.Core.Bool.{Bool, true, false}
 use mathlib.Core.List.{List, [], _∷_, _++_}
 use lib.Ieee.{Float}
 use lib.ListN.{length, take, drop, getD, set}
 use Rattle.float.specs.Choice.{_and_}
 use Rattle.answer.specs.Answer.{notFinite}
 use Rattle.plane.specs.Point.{origin}
+use Rattle.plane.specs.Rect.{boxOf}
+use Rattle.plane.specs.Within.{InRect}
 use Rattle.plane.specs.declared.point.Point.{Point}
 use Rattle.plane.specs.declared.rect.Rect.{Rect}
-use Rattle.clip.specs.Refuse.{pointFine}
+use Rattle.clip.specs.Refuse.{pointFine, windowFine}
+use Rattle.clip.specs.Answers.{whole}
+use Rattle.clip.specs.Values.{HandedIn, floatsOf, OwnAsks}
+use Rattle.clip.specs.Promises.{firstOf, secondOf}
+use Rattle.clip.specs.declared.Segment.{Segment}
 use Rattle.clip.specs.declared.Clipped.{Clipped}
-use Rattle.trace.specs.Trace.{cutsOf, traceCuts}
-use Rattle.trace.specs.Records.{recordsOf, howMany}
+use Rattle.clip.specs.declared.Clipped.the-variants.{Kept}
+use Rattle.trace.specs.Trace.{edgeCut, cutsOf, traceCuts}
+use Rattle.trace.specs.Records.{cutBytes, recordsOf, howMany}
 use Rattle.trace.specs.Answers.{answerOf}
 
 -- sample k, and record k
@@ -29,6 +36,20 @@ pub record Joined (whole first second : List Clipped) : Type 0 where
   pub records : recordsOf whole ≡ recordsOf first ++ recordsOf second
   pub counts : (is : Clipped → Bool) → howMany is whole ≡ howMany is first + howMany is second
   pub edges : length whole ≡ length first + length second
+
+-- samples k and k + 1 are there and live, the window is fine, and all their floats can be handed in
+pub record LiveEdge (w : Rect) (ps : List Point) (k : ℕ) : Type 0 where
+  pub there : k + 1 < length ps
+  pub samples : (pointFine (sampleAt k ps) and pointFine (sampleAt (k + 1) ps)) ≡ true
+  pub window : windowFine w ≡ true
+  pub floats : HandedIn (floatsOf (sampleAt k ps) (sampleAt (k + 1) ps) w)
+
+-- the bytes are a kept edge's; and a or b, where it lies in the window, is in them as it was: a as a, b as b but for a coordinate that compares equal to a's
+pub record KeptEnds (w : Rect) (a b : Point) (bytes : List ℕ) : Type 0 where
+  pub points : Segment
+  pub kept : bytes ≡ cutBytes (Kept points)
+  pub first : InRect w a → firstOf points ≡ a
+  pub second : InRect w b → secondOf points ≡ secondOf (whole a b)
 
 pub record Promises : Type 0 where
   -- one edge fewer than samples, and none of no sample
@@ -48,6 +69,13 @@ pub record Promises : Type 0 where
   pub dead : (touches : Bool) (w : Rect) (ps : List Point) (k : ℕ) → k + 1 < length ps
       → (getD (recordAt k (recordsOf (cutsOf touches w ps))) 0 0 ≡ notFinite)
       ↔ ((pointFine (sampleAt k ps) and pointFine (sampleAt (k + 1) ps)) ≡ false)
+  -- with touches kept, a live edge of which sample k or k + 1 lies in the window is kept, with that sample as it was
+  pub end-kept : (w : Rect) (ps : List Point) (k : ℕ) → LiveEdge w ps k → InRect w (sampleAt k ps) ⊎ InRect w (sampleAt (k + 1) ps)
+      → KeptEnds w (sampleAt k ps) (sampleAt (k + 1) ps) (recordAt k (recordsOf (cutsOf true w ps)))
+  -- record k is that of its edge's own cut, and each value that this asks for lies between the two samples' own coordinates
+  pub own-asks : (touches : Bool) (w : Rect) (ps : List Point) (k : ℕ) → LiveEdge w ps k
+      → let a = sampleAt k ps in let b = sampleAt (k + 1) ps in
+      (recordAt k (recordsOf (cutsOf touches w ps)) ≡ cutBytes (edgeCut touches w a b)) × OwnAsks a b w (boxOf a b)
   -- a trace cut at the sample x, y, which is sent in both halves
   pub joins : (touches : Bool) (w : Rect) (fs gs : List Float) (x y : Float) → length fs % 2 ≡ 0
       → Joined (traceCuts touches w (fs ++ (x ∷ y ∷ gs)))

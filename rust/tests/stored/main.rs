@@ -1,4 +1,4 @@
-//! The stored list of `crates/answers`: the lines that the Rust crate s2 gave, asked of this crate.
+//! The stored list of `crates/answers`: the lines that the Rust crate s2 gave, with W8's clamp, asked of this crate.
 
 mod words;
 

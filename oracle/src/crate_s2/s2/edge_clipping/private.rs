@@ -17,30 +17,24 @@ pub const EDGE_CLIP_ERROR_UV_COORD: f64 = super::EDGE_CLIP_ERROR_UV_COORD;
 #[cfg(test)]
 pub const INTERSECT_RECT_ERROR_UV_DIST: f64 = super::INTERSECT_RECT_ERROR_UV_DIST;
 
-pub fn interpolate(x: f64, a: f64, b: f64, a1: f64, b1: f64) -> f64 {
-    super::interpolate(x, a, b, a1, b1)
+/// The functions that take values from a line, as one text has them: the crate's, or that of `clamped.rs`.
+#[allow(clippy::type_complexity)]
+pub struct Cut {
+    pub interpolate: fn(f64, f64, f64, f64, f64) -> f64,
+    pub clip_bound_axis: fn(f64, f64, Interval, f64, f64, Interval, bool, Interval) -> (Interval, Interval, bool),
+    pub clip_edge_bound: fn(r2::point::Point, r2::point::Point, Rect, Rect) -> (Rect, bool),
+    pub clip_edge: fn(r2::point::Point, r2::point::Point, Rect) -> (r2::point::Point, r2::point::Point, bool),
 }
+
+pub const CRATES: Cut = Cut {
+    interpolate: super::interpolate,
+    clip_bound_axis: super::clip_bound_axis,
+    clip_edge_bound: super::clip_edge_bound,
+    clip_edge: super::clip_edge,
+};
 
 pub fn update_endpoint(bound: Interval, high: bool, value: f64) -> (Interval, bool) {
     super::update_endpoint(bound, high, value)
-}
-
-#[allow(clippy::too_many_arguments)]
-pub fn clip_bound_axis(
-    a0: f64,
-    b0: f64,
-    bound0: Interval,
-    a1: f64,
-    b1: f64,
-    bound1: Interval,
-    negative_slope: bool,
-    window: Interval,
-) -> (Interval, Interval, bool) {
-    super::clip_bound_axis(a0, b0, bound0, a1, b1, bound1, negative_slope, window)
-}
-
-pub fn clip_edge_bound(a: r2::point::Point, b: r2::point::Point, window: Rect, bound: Rect) -> (Rect, bool) {
-    super::clip_edge_bound(a, b, window, bound)
 }
 
 pub fn edge_intersects_rect(a: r2::point::Point, b: r2::point::Point, window: &Rect) -> bool {
