@@ -145,11 +145,13 @@ fn d10_edge_intersects_rect_beyond_its_bound() {
 
 #[test]
 fn d11_a_cut_value_far_from_the_line() {
-    let [mut a] = asked("D11", [34]);
+    let [mut edge, mut third] = asked("D11", [34, 30]);
     let step = f64::from_bits(1);
-    let kept = cut(&mut a).expect("it is kept");
+    let kept = cut(&mut edge).expect("it is kept");
     assert_eq!(kept, [step, 0.0, 2.0 * step, 0.5]);
     assert!(0.25 - kept[1] > private::EDGE_CLIP_ERROR_UV_COORD);
+    // A third of 0.5; `near.rs` has its exact error.
+    assert_eq!(interpolate(&mut third), 0.0);
 }
 
 #[test]

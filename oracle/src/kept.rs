@@ -93,6 +93,7 @@ pub const KEPT: &[Kept] = &[
     ("D33", 34, &floats([0.0, -0.06, 10.0 * STEP, 0.04, 5.0 * STEP, -1.0, 1.0, 1.0])),
     ("D33", 33, &floats([0.0, -0.06, 10.0 * STEP, 0.04, 5.0 * STEP, -1.0, 1.0, 1.0, 0.0, -1.0, 10.0 * STEP, 1.0])),
     ("D33", 34, &floats([0.0, 0.1, 0.1, 0.8, 0.05, 0.0, 0.05f64.next_up(), 10.0])),
+    ("D11", 30, &floats([STEP, 0.0, 3.0 * STEP, 0.0, 0.5])),
 ];
 
 /// Entries about what the port leaves out, so that no operation can keep them, and the words of their inputs.

@@ -21,6 +21,7 @@ mod likeness;
 #[cfg(test)]
 mod limit;
 mod line;
+mod near;
 mod number;
 mod operations;
 #[cfg(test)]
@@ -31,6 +32,7 @@ mod promises;
 mod random;
 mod records;
 mod requests;
+mod rules;
 mod same;
 mod samples;
 mod shapes;
@@ -63,6 +65,8 @@ oracle list < REQUESTS          the same as our definitions have it: zeros that 
 oracle requests N SEED          N seeded requests, every operation among them
 oracle past N SEED              searches N seeded requests for what the clamp changes; 1 when it is not as it has to be
 oracle past-requests N SEED     those requests
+oracle near N SEED              searches N seeded cuts for the value farthest from the line; 1 when that is too far
+oracle near N SEED RULE         the same of another rule: quotient-first, slope-first, farther-end or intercept
 oracle grid                     every request over short lists of words
 oracle kept                     the requests that keep docs/DIFFERENCES.md
 oracle same PROGRAM INPUT A B   compares two files that cut, answers or trace wrote for INPUT; 1 when they differ but by the clamp";
@@ -92,6 +96,12 @@ fn run(arguments: &[&str]) -> io::Result<bool> {
         ["requests", count, seed] => requests::run(requests::request, whole(count)?, whole(seed)?)?,
         ["past", count, seed] => return past::run(whole(count)?, whole(seed)?),
         ["past-requests", count, seed] => requests::run(past::request, whole(count)?, whole(seed)?)?,
+        ["near", count, seed] => return near::run(whole(count)?, whole(seed)?),
+        ["near", count, seed, name] => {
+            let other = rules::OTHERS.iter().find(|(other, _)| other == name);
+            let (_, rule) = other.ok_or_else(|| io::Error::other(format!("no such rule: {name}")))?;
+            near::of_rule(*rule, whole(count)?, whole(seed)?)?;
+        }
         ["grid"] => grid::run()?,
         ["kept"] => kept::run()?,
         ["records", kind, count, seed] => records::run(kind, whole(count)?, whole(seed)?)?,

@@ -13,12 +13,7 @@ pub struct Whole([u64; WORDS]);
 impl Whole {
     /// The float in units of 2^-1074. It has to be finite.
     pub fn of(value: f64) -> Whole {
-        assert!(value.is_finite(), "only a finite float has an exact value");
-        let bits = value.to_bits();
-        let exponent = (bits >> 52 & 0x7ff) as usize;
-        let fraction = bits & ((1 << 52) - 1);
-        // Subnormals and the least normals have the same unit in the last place.
-        let (mantissa, shift) = if exponent == 0 { (fraction, 0) } else { (fraction | 1 << 52, exponent - 1) };
+        let (mantissa, shift) = parts(value);
         let placed = u128::from(mantissa) << (shift % 64);
         let mut words = [0; WORDS];
         words[shift / 64] = placed as u64;
@@ -40,6 +35,53 @@ impl Whole {
         } else {
             self
         }
+    }
+
+    /// So many times it. Like `shifted`, it has to fit.
+    pub fn scaled(mut self, count: u64) -> Whole {
+        let mut carry = 0;
+        for word in &mut self.0 {
+            (*word, carry) = word.carrying_mul(count, carry);
+        }
+        self
+    }
+
+    /// 2^places times it.
+    pub fn shifted(self, places: usize) -> Whole {
+        let (skipped, rest) = (places / 64, places % 64);
+        let mut words = [0; WORDS];
+        let mut carry = 0;
+        for (word, from) in words[skipped..].iter_mut().zip(self.0) {
+            let placed = u128::from(from) << rest;
+            (*word, carry) = (placed as u64 | carry, (placed >> 64) as u64);
+        }
+        Whole(words)
+    }
+
+    /// The product with a float, in units of 2^-2148. For floats up to 1 in magnitude, and sums of some, it fits.
+    pub fn times(self, value: f64) -> Whole {
+        let (mantissa, shift) = parts(value);
+        let product = self.scaled(mantissa).shifted(shift);
+        if value.is_sign_negative() {
+            -product
+        } else {
+            product
+        }
+    }
+}
+
+/// The magnitude of a finite float as a whole number and the power of two that it is to be multiplied with, in units of
+/// 2^-1074.
+fn parts(value: f64) -> (u64, usize) {
+    assert!(value.is_finite(), "only a finite float has an exact value");
+    let bits = value.to_bits();
+    let exponent = (bits >> 52 & 0x7ff) as usize;
+    let fraction = bits & ((1 << 52) - 1);
+    // Subnormals and the least normals have the same unit in the last place.
+    if exponent == 0 {
+        (fraction, 0)
+    } else {
+        (fraction | 1 << 52, exponent - 1)
     }
 }
 
@@ -113,7 +155,8 @@ mod tests {
     use crate::floats::Family;
     use crate::random::Random;
 
-    /// The order of floats is that of their exact values, and a sum that floats can do exactly is the same sum.
+    /// The order of floats is that of their exact values, and a sum or product that floats can do exactly is the
+    /// same.
     #[test]
     fn agrees_with_floats() {
         let mut random = Random::new(1);
@@ -124,6 +167,8 @@ mod tests {
             let (x, y) = (random.between(-1 << 52, 1 << 52), random.between(-1 << 52, 1 << 52));
             assert!(Whole::of(x as f64) + Whole::of(y as f64) == Whole::of((x + y) as f64));
             assert!(Whole::of(x as f64) - Whole::of(y as f64) == Whole::of((x - y) as f64));
+            let (x, y) = (x >> 27, y >> 27);
+            assert!(Whole::of(x as f64).times(y as f64) == Whole::of((x * y) as f64).shifted(1074));
         }
     }
 }

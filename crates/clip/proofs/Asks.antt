@@ -1,7 +1,7 @@
--- The values that a cut asks for. What holds of every one holds by the sides that it asks at; from the edge's own box, or a part of it, those lie in that box, since what is left of it stays a part of it.
+-- The places at which a cut asks the line, and the values that it asks for there. What holds of every place holds of the sides that are asked at; from the edge's own box, or a part of it, those lie in that box, since what is left of it stays a part of it.
 use mathlib.Core.Path.{_≡_, refl, ap}
 use mathlib.Core.Bool.{Bool, true, false, not}
-use mathlib.Core.List.{List, [], _∷_, _++_, append-assoc}
+use mathlib.Core.List.{List, [], _∷_, _++_, append-assoc, map, map-append}
 use lib.Ieee.{Float, unlike}
 use Rattle.float.specs.Choice.{when_then_else_}
 use Rattle.float.proofs.Choice.{cases, and-parts, and-both}
@@ -16,7 +16,7 @@ use Rattle.clip.specs.declared.compute.Both.{Both}
 use Rattle.clip.specs.declared.compute.AxisCut.{AxisCut}
 use Rattle.clip.specs.declared.compute.AxisCut.the-variants.{Left, Gone}
 use Rattle.clip.specs.Cut.{negativeSlope, valueAt, inward, withEnd, movedEnd, otherMoved, sideCut, thenHigh, axisCut, afterY, afterX, thenY, boxCut}
-use Rattle.clip.specs.Values.{every, sideAsks, highAsks, axisAsks, yAsks, asksOnX, asksOnY, boxAsks}
+use Rattle.clip.specs.Values.{every, sidePlaces, highPlaces, axisPlaces, yPlaces, placesOnX, placesOnY, axisAsks, asksOnX, asksOnY, boxAsks}
 use Rattle.clip.proofs.Sides.{upTo, inward-up, not-inward, up-num, end-num}
 use Rattle.clip.proofs.Moves.{side-part, axis-left}
 
@@ -24,6 +24,12 @@ every-both : (test : Float → Bool) (xs ys : List Float) → every test xs ≡ 
 unfolding every
 every-both test [] ys p q = q
 every-both test (x ∷ xs) ys p q = let (h, t) = and-parts _ _ p in and-both _ _ h (every-both test xs ys t q)
+
+-- a test of the values at places is one of the places
+pub every-map : (test : Float → Bool) (g : Float → Float) (xs : List Float) → every test (map g xs) ≡ every (λ (x : Float). test (g x)) xs
+unfolding every
+every-map test g [] = refl
+every-map test g (x ∷ xs) = rw (every-map test g xs)
 
 -- the side lies inward of the end d of i, and not of the other
 abbrev pub Asked : Bool → Interval → Interval → Type 0
@@ -41,97 +47,105 @@ asked-in d i w some (p, q) =
 
 module _ (test : Float → Bool) where
   -- ---- side by side, and axis by axis
-  side-asks : (d : Bool) (a0 b0 : Float) (this : Interval) (a1 b1 : Float) (w : Interval)
-      → (Asked d this w → test (valueAt (endOf w d) a0 b0 a1 b1) ≡ true) → every test (sideAsks d a0 b0 this a1 b1 w) ≡ true
-  unfolding sideAsks every
-  side-asks d a0 b0 this a1 b1 w h =
+  side-places : (d : Bool) (this w : Interval) → (Asked d this w → test (endOf w d) ≡ true) → every test (sidePlaces d this w) ≡ true
+  unfolding sidePlaces every
+  side-places d this w h =
       cases All _ _ _ (λ p. cases All _ _ _ (λ q. refl) (λ q. and-both _ _ (h (p, q)) refl)) (λ p. refl)
     where
       All : List Float → Type 0
       All xs = every test xs ≡ true
 
-  axis-asks : (a0 b0 : Float) (this : Interval) (a1 b1 : Float) (other : Interval) (neg : Bool) (w : Interval)
-      → (Asked false this w → test (valueAt (endOf w false) a0 b0 a1 b1) ≡ true)
-      → ((s : Both) → sideCut false a0 b0 this a1 b1 other neg w ≡ Left s → Asked true (s .this) w → test (valueAt (endOf w true) a0 b0 a1 b1) ≡ true)
-      → every test (axisAsks a0 b0 this a1 b1 other neg w) ≡ true
-  unfolding axisAsks
-  axis-asks a0 b0 this a1 b1 other neg w l h = every-both test _ _ (side-asks false a0 b0 this a1 b1 w l) (go (sideCut false a0 b0 this a1 b1 other neg w) refl)
+  axis-places : (a0 b0 : Float) (this : Interval) (a1 b1 : Float) (other : Interval) (neg : Bool) (w : Interval)
+      → (Asked false this w → test (endOf w false) ≡ true)
+      → ((s : Both) → sideCut false a0 b0 this a1 b1 other neg w ≡ Left s → Asked true (s .this) w → test (endOf w true) ≡ true)
+      → every test (axisPlaces a0 b0 this a1 b1 other neg w) ≡ true
+  unfolding axisPlaces
+  axis-places a0 b0 this a1 b1 other neg w l h = every-both test _ _ (side-places false this w l) (go (sideCut false a0 b0 this a1 b1 other neg w) refl)
     where
-      go : (m : AxisCut) → sideCut false a0 b0 this a1 b1 other neg w ≡ m → every test (highAsks a0 b0 a1 b1 w m) ≡ true
-      go (Left s) e = unfold highAsks in side-asks true a0 b0 (s .this) a1 b1 w (h s e)
-      go Gone e = unfold highAsks every in refl
+      go : (m : AxisCut) → sideCut false a0 b0 this a1 b1 other neg w ≡ m → every test (highPlaces w m) ≡ true
+      go (Left s) e = unfold highPlaces in side-places true (s .this) w (h s e)
+      go Gone e = unfold highPlaces every in refl
 
-  pub box-asks : (a b : Point) (w r : Rect) → every test (asksOnX a b w r) ≡ true → every test (asksOnY a b w r) ≡ true → every test (boxAsks a b w r) ≡ true
-  unfolding boxAsks
-  box-asks a b w r h k = every-both test _ _ h k
-
-  y-asks : (a b : Point) (w r : Rect)
+  y-places : (a b : Point) (w r : Rect)
       → ((s : Both) → axisCut (a .x) (b .x) (r .x) (a .y) (b .y) (r .y) (negativeSlope a b) (w .x) ≡ Left s
-      → every test (axisAsks (a .y) (b .y) (s .other) (a .x) (b .x) (s .this) (negativeSlope a b) (w .y)) ≡ true)
-      → every test (asksOnY a b w r) ≡ true
-  y-asks a b w r k = go (axisCut (a .x) (b .x) (r .x) (a .y) (b .y) (r .y) (negativeSlope a b) (w .x)) refl
+      → every test (axisPlaces (a .y) (b .y) (s .other) (a .x) (b .x) (s .this) (negativeSlope a b) (w .y)) ≡ true)
+      → every test (placesOnY a b w r) ≡ true
+  y-places a b w r k = go (axisCut (a .x) (b .x) (r .x) (a .y) (b .y) (r .y) (negativeSlope a b) (w .x)) refl
     where
-      go : (m : AxisCut) → axisCut (a .x) (b .x) (r .x) (a .y) (b .y) (r .y) (negativeSlope a b) (w .x) ≡ m → every test (yAsks a b (negativeSlope a b) (w .y) m) ≡ true
-      go (Left s) e = unfold yAsks in k s e
-      go Gone e = unfold yAsks every in refl
+      go : (m : AxisCut) → axisCut (a .x) (b .x) (r .x) (a .y) (b .y) (r .y) (negativeSlope a b) (w .x) ≡ m → every test (yPlaces a b (negativeSlope a b) (w .y) m) ≡ true
+      go (Left s) e = unfold yPlaces in k s e
+      go Gone e = unfold yPlaces every in refl
 
   -- ---- any box: what holds at both sides
   pub axis-any : (a0 b0 : Float) (this : Interval) (a1 b1 : Float) (other : Interval) (neg : Bool) (w : Interval)
-      → ((d : Bool) → test (valueAt (endOf w d) a0 b0 a1 b1) ≡ true) → every test (axisAsks a0 b0 this a1 b1 other neg w) ≡ true
-  axis-any a0 b0 this a1 b1 other neg w h = axis-asks a0 b0 this a1 b1 other neg w (λ p. h false) (λ s e p. h true)
-
-  pub box-any : (a b : Point) (w r : Rect) → ((d : Bool) → test (valueAt (endOf (w .x) d) (a .x) (b .x) (a .y) (b .y)) ≡ true)
-      → ((d : Bool) → test (valueAt (endOf (w .y) d) (a .y) (b .y) (a .x) (b .x)) ≡ true) → every test (boxAsks a b w r) ≡ true
-  box-any a b w r h k = box-asks a b w r (axis-any _ _ _ _ _ _ _ (w .x) h) (y-asks a b w r (λ s e. axis-any _ _ _ _ _ _ _ (w .y) k))
+      → ((d : Bool) → test (endOf w d) ≡ true) → every test (axisPlaces a0 b0 this a1 b1 other neg w) ≡ true
+  axis-any a0 b0 this a1 b1 other neg w h = axis-places a0 b0 this a1 b1 other neg w (λ p. h false) (λ s e p. h true)
 
   -- ---- a part of the edge's own box: what holds at the sides in that box
   pub axis-own : (a0 b0 : Float) (this : Interval) (a1 b1 : Float) (other : Interval) (neg : Bool) (w : Interval) → Part this (between a0 b0) → Some w
-      → ((d : Bool) → In (between a0 b0) (endOf w d) → test (valueAt (endOf w d) a0 b0 a1 b1) ≡ true) → every test (axisAsks a0 b0 this a1 b1 other neg w) ≡ true
+      → ((d : Bool) → In (between a0 b0) (endOf w d) → test (endOf w d) ≡ true) → every test (axisPlaces a0 b0 this a1 b1 other neg w) ≡ true
   axis-own a0 b0 this a1 b1 other neg w part n h =
-      axis-asks a0 b0 this a1 b1 other neg w (at false this part)
+      axis-places a0 b0 this a1 b1 other neg w (at false this part)
       (λ s e. at true (s .this) (part-trans _ _ _ (side-part false a0 b0 this a1 b1 other neg w s (part .some) (end-num w false n) e .0) part))
     where
-      at : (d : Bool) (i : Interval) → Part i (between a0 b0) → Asked d i w → test (valueAt (endOf w d) a0 b0 a1 b1) ≡ true
+      at : (d : Bool) (i : Interval) → Part i (between a0 b0) → Asked d i w → test (endOf w d) ≡ true
       at d i p q = h d (part-in i _ _ p (asked-in d i w (p .some) q))
 
   pub x-own : (a b : Point) (w r : Rect) → PartRect r (boxOf a b) → SomeRect w
-      → ((d : Bool) → In (between (a .x) (b .x)) (endOf (w .x) d) → test (valueAt (endOf (w .x) d) (a .x) (b .x) (a .y) (b .y)) ≡ true) → every test (asksOnX a b w r) ≡ true
+      → ((d : Bool) → In (between (a .x) (b .x)) (endOf (w .x) d) → test (endOf (w .x) d) ≡ true) → every test (placesOnX a b w r) ≡ true
   x-own a b w r p n h = axis-own _ _ _ _ _ _ _ (w .x) (p .x) (n .x) h
 
   pub y-own : (a b : Point) (w r : Rect) → PartRect r (boxOf a b) → SomeRect w
-      → ((d : Bool) → In (between (a .y) (b .y)) (endOf (w .y) d) → test (valueAt (endOf (w .y) d) (a .y) (b .y) (a .x) (b .x)) ≡ true) → every test (asksOnY a b w r) ≡ true
+      → ((d : Bool) → In (between (a .y) (b .y)) (endOf (w .y) d) → test (endOf (w .y) d) ≡ true) → every test (placesOnY a b w r) ≡ true
   y-own a b w r p n h =
-      y-asks a b w r (λ s e.
+      y-places a b w r (λ s e.
       let c = axis-left _ _ _ _ _ _ _ _ s (p .x .some) (p .y .some) (n .x) e .0 in
       axis-own _ _ _ _ _ _ _ (w .y) (part-trans _ _ _ (c .on-other) (p .y)) (n .y) h)
 
+-- ---- of the values, by their places on each axis
+module _ (test : Float → Bool) (a b : Point) (w r : Rect) where
+  pub box-asks : every (λ (x : Float). test (valueAt x (a .x) (b .x) (a .y) (b .y))) (placesOnX a b w r) ≡ true
+      → every (λ (y : Float). test (valueAt y (a .y) (b .y) (a .x) (b .x))) (placesOnY a b w r) ≡ true → every test (boxAsks a b w r) ≡ true
+  unfolding boxAsks
+  box-asks h k = every-both test (asksOnX a b w r) (asksOnY a b w r) (rw every-map h) (rw every-map k)
+
+  pub box-any : ((d : Bool) → test (valueAt (endOf (w .x) d) (a .x) (b .x) (a .y) (b .y)) ≡ true)
+      → ((d : Bool) → test (valueAt (endOf (w .y) d) (a .y) (b .y) (a .x) (b .x)) ≡ true) → every test (boxAsks a b w r) ≡ true
+  box-any h k = box-asks (axis-any _ _ _ _ _ _ _ _ (w .x) h) (y-places _ a b w r (λ s e. axis-any _ _ _ _ _ _ _ _ (w .y) k))
+
 -- ---- a cut takes no more from the line than what it asks for: where two lines are asked for the same values, their cuts are the same
--- the two choices of a side, one of what is asked for and one of what is made of it
-alike : {A : Type 0} (f : Float → A) (x y : A) (s t : Bool) (u v : Float) (r q : List Float)
-    → (when s then when t then [] else u ∷ [] else []) ++ r ≡ (when s then when t then [] else v ∷ [] else []) ++ q
-    → ((when s then when t then x else f u else y) ≡ (when s then when t then x else f v else y)) × (r ≡ q)
+-- the line's value at x
+abbrev line : Float → Float → Float → Float → Float → Float
+line a b a1 b1 x = valueAt x a b a1 b1
+
+-- the two choices of a side, one of where the line is asked and one of what is made of the value there
+alike : {A : Type 0} (f : Float → A) (x y : A) (s t : Bool) (side : Float) (g h : Float → Float) (r q : List Float)
+    → map g (when s then when t then [] else side ∷ [] else []) ++ r ≡ map h (when s then when t then [] else side ∷ [] else []) ++ q
+    → ((when s then when t then x else f (g side) else y) ≡ (when s then when t then x else f (h side) else y)) × (r ≡ q)
 unfolding when_then_else_
-alike f x y true true u v r q e = (refl, e)
-alike f x y true false u v r q e = let h : u ≡ v = cc in (ap f h, cc)
-alike f x y false t u v r q e = (refl, e)
+alike f x y true true side g h r q e = (refl, e)
+alike f x y true false side g h r q e = let k : g side ≡ h side = cc in (ap f k, cc)
+alike f x y false t side g h r q e = (refl, e)
 
 module _ (a0 b0 a1 b1 c0 d0 c1 d1 : Float) (neg : Bool) (w : Interval) where
-  side-alike : (d : Bool) (this other : Interval) (r q : List Float) → sideAsks d a0 b0 this a1 b1 w ++ r ≡ sideAsks d c0 d0 this c1 d1 w ++ q
+  side-alike : (d : Bool) (this other : Interval) (r q : List Float)
+      → map (line a0 b0 a1 b1) (sidePlaces d this w) ++ r ≡ map (line c0 d0 c1 d1) (sidePlaces d this w) ++ q
       → (sideCut d a0 b0 this a1 b1 other neg w ≡ sideCut d c0 d0 this c1 d1 other neg w) × (r ≡ q)
-  unfolding sideAsks sideCut
-  side-alike d this other r q e = alike (λ v. otherMoved (withEnd this d (endOf w d)) (movedEnd other (unlike d neg) v)) Gone _ _ _ _ _ r q e
+  unfolding sidePlaces sideCut
+  side-alike d this other r q e = alike (λ v. otherMoved (withEnd this d (endOf w d)) (movedEnd other (unlike d neg) v)) Gone _ _ _ _ _ _ r q e
 
   axis-alike : (this other : Interval) (r q : List Float) → axisAsks a0 b0 this a1 b1 other neg w ++ r ≡ axisAsks c0 d0 this c1 d1 other neg w ++ q
       → (axisCut a0 b0 this a1 b1 other neg w ≡ axisCut c0 d0 this c1 d1 other neg w) × (r ≡ q)
-  unfolding axisAsks axisCut
+  unfolding axisPlaces axisCut
   axis-alike this other r q e =
       let m = sideCut false a0 b0 this a1 b1 other neg w in
-      let (k, f) = side-alike false this other _ _ (rw (append-assoc, append-assoc) at e) in
+      let (k, f) = side-alike false this other _ _ (simp (map-append, append-assoc) at e) in
       rw (← k) (go m (rw (← k) at f))
     where
-      go : (m : AxisCut) → highAsks a0 b0 a1 b1 w m ++ r ≡ highAsks c0 d0 c1 d1 w m ++ q → (thenHigh a0 b0 a1 b1 neg w m ≡ thenHigh c0 d0 c1 d1 neg w m) × (r ≡ q)
-      go (Left s) e = unfold highAsks thenHigh in side-alike true (s .this) (s .other) r q e
-      go Gone e = unfold highAsks thenHigh in (refl, e)
+      go : (m : AxisCut) → map (line a0 b0 a1 b1) (highPlaces w m) ++ r ≡ map (line c0 d0 c1 d1) (highPlaces w m) ++ q
+          → (thenHigh a0 b0 a1 b1 neg w m ≡ thenHigh c0 d0 c1 d1 neg w m) × (r ≡ q)
+      go (Left s) e = unfold highPlaces thenHigh in side-alike true (s .this) (s .other) r q e
+      go Gone e = unfold highPlaces thenHigh in (refl, e)
 
   pub axis-by-asks : (this other : Interval) → axisAsks a0 b0 this a1 b1 other neg w ≡ axisAsks c0 d0 this c1 d1 other neg w
       → axisCut a0 b0 this a1 b1 other neg w ≡ axisCut c0 d0 this c1 d1 other neg w
@@ -145,6 +159,7 @@ box-by-asks a b c d w r n e =
     let (k, f) = axis-alike (a .x) (b .x) (a .y) (b .y) (c .x) (d .x) (c .y) (d .y) g (w .x) (r .x) (r .y) _ _ (rw (← n) at e) in
     rw (← n, ← k) (go g m (rw (← k) at f))
   where
-    go : (g : Bool) (m : AxisCut) → yAsks a b g (w .y) m ≡ yAsks c d g (w .y) m → thenY a b g (w .y) m ≡ thenY c d g (w .y) m
-    go g (Left s) e = unfold yAsks thenY afterX in ap afterY (axis-by-asks (a .y) (b .y) (a .x) (b .x) (c .y) (d .y) (c .x) (d .x) g (w .y) (s .other) (s .this) e)
-    go g Gone e = unfold yAsks thenY in refl
+    go : (g : Bool) (m : AxisCut) → map (line (a .y) (b .y) (a .x) (b .x)) (yPlaces a b g (w .y) m) ≡ map (line (c .y) (d .y) (c .x) (d .x)) (yPlaces c d g (w .y) m)
+        → thenY a b g (w .y) m ≡ thenY c d g (w .y) m
+    go g (Left s) e = unfold yPlaces thenY afterX in ap afterY (axis-by-asks (a .y) (b .y) (a .x) (b .x) (c .y) (d .y) (c .x) (d .x) g (w .y) (s .other) (s .this) e)
+    go g Gone e = unfold yPlaces thenY in refl

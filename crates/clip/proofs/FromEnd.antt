@@ -33,22 +33,22 @@ abbrev pub Along : Float → Float → Float → Type 0
 Along x a b = ((le a x ≡ true) × (le x b ≡ true)) ⊎ ((le b x ≡ true) × (le x a ≡ true))
 
 module _ {f : Format} {k : ℕ} (room : suc k + suc k ≤ emax f) {x a b a1 b1 : Float} (m : Modest f k x a b a1 b1) where
-  difference : {y z : Float} → UpTo f (powerUnits f k) y → UpTo f (powerUnits f k) z → UpTo f (powerUnits f (suc k)) (sub f y z)
+  pub difference : {y z : Float} → UpTo f (powerUnits f k) y → UpTo f (powerUnits f k) z → UpTo f (powerUnits f (suc k)) (sub f y z)
   difference Y Z = difference-up-to Y Z (power-exactly f (suc k) (omega arith)) (rw pow-suc (omega arith))
 
   pub rise : UpTo f (powerUnits f (suc k)) (sub f b1 a1)
   rise = difference (m .height-b) (m .height-a)
 
-  run : UpTo f (powerUnits f (suc k)) (sub f b a)
+  pub run : UpTo f (powerUnits f (suc k)) (sub f b a)
   run = difference (m .at-b) (m .at-a)
 
-  part : UpTo f (powerUnits f (suc k)) (sub f x a)
+  pub part : UpTo f (powerUnits f (suc k)) (sub f x a)
   part = difference (m .at-x) (m .at-a)
 
   pub product : {y : Float} → UpTo f (powerUnits f (suc k)) y → UpTo f (powerUnits f (suc k + suc k)) (mul f y (sub f x a))
   product u = product-up-to u part (power-exactly f (suc k + suc k) room) (rw (pow-add 2 (suc k) (suc k)) (omega arith))
 
-  some : eq b a ≡ false → 0 < mag f (sub f b a)
+  pub some : eq b a ≡ false → 0 < mag f (sub f b a)
   some apart = difference-some (m .at-b .value) (m .at-a .value) apart (run .value .is-finite)
 
   -- wherever x is, the quotient may overflow, and is no NaN
@@ -68,12 +68,14 @@ module _ {f : Format} {k : ℕ} (room : suc k + suc k ≤ emax f) {x a b a1 b1 :
       ])
 
   -- so the product is at most 2 ^ (k + 1) times the divisor, a value, and the quotient at most 2 ^ (k + 1)
-  pub from-end-finite : eq b a ≡ false → Along x a b → finite (add f a1 (div f (mul f (sub f b1 a1) (sub f x a)) (sub f b a))) ≡ true
-  from-end-finite apart o =
+  pub quotient : eq b a ≡ false → Along x a b → UpTo f (powerUnits f (suc k)) (div f (mul f (sub f b1 a1) (sub f x a)) (sub f b a))
+  quotient apart o =
       let u : UpTo f (mag f (sub f b a)) (sub f x a) = record { value = part .value; size = shorter o } in
       let p = product-up-to rise u (times-exactly (suc k) (suc k) run room) (omega arith) in
-      let q = quotient-up-to p run (power-exactly f (suc k) (omega arith)) (some apart) (omega arith) in
-      sum-up-to (m .height-a) q (power-exactly f (suc (suc k)) (omega arith)) (simp pow-suc (omega arith)) .value .is-finite
+      quotient-up-to p run (power-exactly f (suc k) (omega arith)) (some apart) (omega arith)
+
+  pub from-end-finite : eq b a ≡ false → Along x a b → finite (add f a1 (div f (mul f (sub f b1 a1) (sub f x a)) (sub f b a))) ≡ true
+  from-end-finite apart o = sum-up-to (m .height-a) (quotient apart o) (power-exactly f (suc (suc k)) (omega arith)) (simp pow-suc (omega arith)) .value .is-finite
 
   -- ---- at x = a: a zero is added to a1, and a is the nearer end
   module _ (low : le a x ≡ true) (high : le x a ≡ true) where

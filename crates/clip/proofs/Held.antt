@@ -4,7 +4,10 @@ use mathlib.Core.Logic.{inl, inr}
 use mathlib.Core.Bool.{Bool, true, false, true≢false}
 use native.Mathlib.Omega.{arith}
 use lib.Ieee.{Float, binary64, le, eq}
-use Rattle.float.specs.Float.{_⊖_, finite, magnitudeOf}
+use lib.Ieee.Bits.{is-true}
+use lib.Ieee.Fits.{add-fits}
+use Rattle.float.specs.Float.{_⊕_, _⊖_, finite, magnitudeOf}
+use Rattle.float.specs.Exact.{Value}
 use Rattle.float.proofs.Choice.{then-is, else-is, cases}
 use Rattle.float.proofs.Order.{Num, finite-num, le-num, le-refl, le-trans, le-eq, le-not-lt, not-lt, eq-le, total}
 use Rattle.float.proofs.Sums.{eq-swap}
@@ -43,7 +46,7 @@ module _ (i : Interval) (v : Float) where
   held-stays h = sym (else-is _ _ _ _ (le-not-lt _ _ (h .low)) (else-is _ _ _ _ (le-not-lt _ _ (h .high)) refl))
 
 -- ---- x from a to b
-along : (x a b : Float) → Num a → Num b → In (between a b) x → Along x a b
+pub along : (x a b : Float) → Num a → Num b → In (between a b) x → Along x a b
 along x a b p q i =
     elim (total a b p q) [
       | inl h ↦
@@ -53,6 +56,10 @@ along x a b p q i =
           let j = part-in _ _ x (between-least a b (from b to a) (record { low = h; high = le-refl a p }) (record { low = le-refl b q; high = h })) i in
           inr (j .low, j .high)
     ]
+
+pub back : (x a b : Float) → Along x a b → Along x b a
+back x a b (inl p) = inr p
+back x a b (inr p) = inl p
 
 -- b equals x and not a
 unequal : (a x b : Float) → eq x b ≡ true → eq a b ≡ false → eq a x ≡ false
@@ -71,7 +78,7 @@ value-level x a b a1 b1 e = sym (then-is _ _ _ _ e refl)
 
 module _ {x a b a1 b1 : Float} (m : Fit x a b a1 b1) where
   -- from the other end
-  turned : Fit x b a b1 a1
+  pub turned : Fit x b a b1 a1
   turned = record { at-x = m .at-x; at-a = m .at-b; at-b = m .at-a; height-a = m .height-b; height-b = m .height-a }
 
   pub num-a : Num a
@@ -100,18 +107,17 @@ module _ {x a b a1 b1 : Float} (m : Fit x a b a1 b1) where
   pub value-num : Num (valueAt x a b a1 b1)
   value-num = value-cases Num (finite-num _ (m .height-a .value .is-finite)) (finite-num _ (m .height-b .value .is-finite)) line-num
 
-  pub value-finite : In (between a b) x → finite (valueAt x a b a1 b1) ≡ true
-  value-finite i =
+  -- for x from a to b
+  pub line-value : In (between a b) x → eq a b ≡ false → Value binary64 (onLine x a b a1 b1)
+  line-value i =
       let o = along x a b num-a num-b i in
-      value-cases Finite (m .height-a .value .is-finite) (m .height-b .value .is-finite)
-      (line-either Finite (λ h. from-end-finite (omega arith) m h o) (λ h. from-end-finite (omega arith) turned h (back o)))
+      line-either (Value binary64) (λ h. of-sum _ _ (from-end-finite (omega arith) m h o)) (λ h. of-sum _ _ (from-end-finite (omega arith) turned h (back x a b o)))
     where
-      back : Along x a b → Along x b a
-      back (inl p) = inr p
-      back (inr p) = inl p
+      of-sum : (y z : Float) → finite (y ⊕ z) ≡ true → Value binary64 (y ⊕ z)
+      of-sum y z h = record { is-finite = h; held = is-true _ (add-fits binary64 y z) }
 
-      Finite : Float → Type 0
-      Finite v = finite v ≡ true
+  pub value-value : In (between a b) x → Value binary64 (valueAt x a b a1 b1)
+  value-value i = value-cases (Value binary64) (m .height-a .value) (m .height-b .value) (line-value i)
 
   pub value-between : In (between a b) x → In (between a1 b1) (valueAt x a b a1 b1)
   unfolding valueAt

@@ -25,22 +25,22 @@ use Rattle.clip.specs.Promises.{NoWider}
 use Rattle.clip.proofs.Sides.{upTo, inward-up, not-inward, up-not, up-refl, up-num, end-num, end-with, with-part, Reach, part-reach, reaches, reach-part}
 
 -- ---- constructors
-to-same : (i j : Interval) → To i ≡ To j → i ≡ j
+pub to-same : (i j : Interval) → To i ≡ To j → i ≡ j
 to-same i j e = cc
 
-to-lost : {A : Type 0} (i : Interval) → Lost ≡ To i → A
+pub to-lost : {A : Type 0} (i : Interval) → Lost ≡ To i → A
 to-lost i e = let z : _≡_ {A = ℕ} 0 1 = cc in absurd (omega arith)
 
-left-same : (s t : Both) → Left s ≡ Left t → s ≡ t
+pub left-same : (s t : Both) → Left s ≡ Left t → s ≡ t
 left-same s t e = cc
 
-left-gone : {A : Type 0} (t : Both) → Gone ≡ Left t → A
+pub left-gone : {A : Type 0} (t : Both) → Gone ≡ Left t → A
 left-gone t e = let z : _≡_ {A = ℕ} 0 1 = cc in absurd (omega arith)
 
-inside-same : (r k : Rect) → Inside r ≡ Inside k → r ≡ k
+pub inside-same : (r k : Rect) → Inside r ≡ Inside k → r ≡ k
 inside-same r k e = cc
 
-inside-out : {A : Type 0} (k : Rect) → Outside ≡ Inside k → A
+pub inside-out : {A : Type 0} (k : Rect) → Outside ≡ Inside k → A
 inside-out k e = let z : _≡_ {A = ℕ} 0 1 = cc in absurd (omega arith)
 
 -- ---- one end
@@ -80,7 +80,7 @@ pub record Cut (t : Both) (this other : Interval) : Type 0 where
   pub on-this : Part (t .this) this
   pub on-other : Part (t .other) other
 
-other-left : {R : Type 0} (i : Interval) (m : Moved) (t : Both) → otherMoved i m ≡ Left t → ((j : Interval) → m ≡ To j → record { this = i; other = j } ≡ t → R) → R
+pub other-left : {R : Type 0} (i : Interval) (m : Moved) (t : Both) → otherMoved i m ≡ Left t → ((j : Interval) → m ≡ To j → record { this = i; other = j } ≡ t → R) → R
 unfolding otherMoved
 other-left i (To j) t e f = f j refl (left-same _ t e)
 other-left i Lost t e f = left-gone t e

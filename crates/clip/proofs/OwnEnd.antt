@@ -26,9 +26,9 @@ use Rattle.clip.proofs.Sides.{upTo, inward-up, up-not, end-stays, with-
 use Rattle.clip.proofs.Moves.{side-stays}
 use Rattle.clip.specs.declared.Clipped.{Clipped}
 use Rattle.clip.specs.declared.Clipped.the-variants.{Kept}
-use Rattle.clip.specs.Answers.{ends, second, whole, edgeAnswer, clipped, numberOf, pointsOf}
+use Rattle.clip.specs.Answers.{ends, second, whole, edgeAnswer, clipped, numberOf, pointsOf, firstOf, secondOf}
 use Rattle.clip.specs.Values.{HandedIn, floatsOf}
-use Rattle.clip.specs.Promises.{Fine, firstOf, secondOf}
+use Rattle.clip.specs.Promises.{Fine}
 use Rattle.clip.proofs.Asks.{asked-in}
 use Rattle.clip.proofs.Cases.{fine-clipped}
 use Rattle.clip.proofs.Numbers.{fine-parts}
@@ -119,7 +119,7 @@ module _ (free free1 neg : Bool) (turn : unlike free neg ≡ free1) (a0 b0 a1 b1
       go Gone q = absurd q
 
 -- ---- the box: on axis x the end `dx` may be moved, on axis y the end `dy`
-turned : (c d : Bool) → (unlike c (unlike c d) ≡ d) × (unlike d (unlike c d) ≡ c)
+pub turned : (c d : Bool) → (unlike c (unlike c d) ≡ d) × (unlike d (unlike c d) ≡ c)
 turned true true = (refl, refl)
 turned true false = (refl, refl)
 turned false true = (refl, refl)
@@ -150,7 +150,7 @@ twice : (c : Bool) → not (not c) ≡ c
 twice true = refl
 twice false = refl
 
-both-not : (c d : Bool) → unlike (not c) (not d) ≡ unlike c d
+pub both-not : (c d : Bool) → unlike (not c) (not d) ≡ unlike c d
 both-not true true = refl
 both-not true false = refl
 both-not false true = refl
@@ -180,17 +180,17 @@ module _ (a b : Point) (w : Rect) (h : HandedIn (floatsOf a b w)) (f : Fine a b 
       ((num-a (x true), num-b (x true)), (num-a (y true), num-b (y true)))
 
   -- A has the greater coordinate
-  abbrev above-x : Bool
+  abbrev pub above-x : Bool
   above-x = lt (b .x) (a .x)
 
-  abbrev above-y : Bool
+  abbrev pub above-y : Bool
   above-y = lt (b .y) (a .y)
 
   -- the corners that A and B take
-  a-corner : cornerOf (boxOf a b) above-x above-y ≡ a
+  pub a-corner : cornerOf (boxOf a b) above-x above-y ≡ a
   a-corner = rw (a-end (a .x) (b .x), a-end (a .y) (b .y))
 
-  b-corner : cornerOf (boxOf a b) (not above-x) (not above-y) ≡ secondOf (whole a b)
+  pub b-corner : cornerOf (boxOf a b) (not above-x) (not above-y) ≡ secondOf (whole a b)
   unfolding second
   b-corner =
       let (x, y) = nums in

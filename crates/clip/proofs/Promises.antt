@@ -41,6 +41,7 @@ use Rattle.clip.proofs.Numbers.{fine-from, fine-parts, numbers}
 use Rattle.clip.proofs.Values.{fine-some, values}
 use Rattle.clip.proofs.Cases.{fine-clipped}
 use Rattle.clip.proofs.OwnEnd.{a-kept, b-kept}
+use Rattle.clip.proofs.Near.{near-the-line}
 use Rattle.clip.proofs.Farthest.{is-farthest, is-nearest, nan-says-no}
 
 -- ---- what is not refused is finite, and the window is good
@@ -238,6 +239,7 @@ unfolding edgeMeets numberOf pointsOf endAnswer
 promises = record {
   numbers = numbers;
   values = values;
+  near = near-the-line;
   never-wider = never-wider;
   first-box = first-box;
   kept-box = kept-box;

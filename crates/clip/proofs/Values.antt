@@ -27,11 +27,11 @@ use Rattle.plane.proofs.Between.{between-in}
 use Rattle.clip.specs.Cut.{onLine, valueAt, inward, withEnd, movedEnd, otherMoved, sideCut, thenHigh, axisCut, offLine}
 use Rattle.clip.specs.Refuse.{coordinate, side, planeRefusal, pointFine, sidesFine, windowFine, axisRefusal, valueRefusal}
 use Rattle.clip.specs.Answers.{axesAnswer, axisAnswer, axisOrRefusal, valueOrRefusal}
-use Rattle.clip.specs.Values.{every, number, HandedIn, floatsOf, sideAsks, highAsks, axisAsks, boxAsks, twoF, tiny, OwnAsks, Values}
+use Rattle.clip.specs.Values.{every, number, HandedIn, floatsOf, sidePlaces, highPlaces, axisPlaces, axisAsks, boxAsks, twoF, tiny, OwnAsks, Values}
 use Rattle.clip.proofs.Numbers.{fine-parts}
-use Rattle.clip.proofs.Held.{Small, Fit, num-a, num-b, value-num, value-finite, value-level, value-between, value-at-a, value-at-b}
+use Rattle.clip.proofs.Held.{Small, Fit, num-a, num-b, value-num, value-value, value-level, value-between, value-at-a, value-at-b}
 use Rattle.clip.proofs.OffLine.{off-line-finite}
-use Rattle.clip.proofs.Asks.{box-asks, axis-any, box-any, axis-own, x-own, y-own, axis-by-asks, box-by-asks}
+use Rattle.clip.proofs.Asks.{every-map, box-asks, axis-any, box-any, axis-own, x-own, y-own, axis-by-asks, box-by-asks}
 
 -- ---- what is not refused is small
 module _ {x : Float} (t : fits binary64 x ≡ true) where
@@ -44,14 +44,14 @@ module _ {x : Float} (t : fits binary64 x ≡ true) where
   small-side h = test-up-to binary64 _ x t h
 
 -- each of the floats handed in
-abbrev Each : List Float → Type 0
-Each [] = Unit {0}
-Each (x ∷ xs) = (fits binary64 x ≡ true) × Each xs
+abbrev pub Each : (Float → Bool) → List Float → Type 0
+Each test [] = Unit {0}
+Each test (x ∷ xs) = (test x ≡ true) × Each test xs
 
-each : (xs : List Float) → HandedIn xs → Each xs
+pub each : (test : Float → Bool) (xs : List Float) → every test xs ≡ true → Each test xs
 unfolding every
-each [] h = tt
-each (x ∷ xs) h = let (p, q) = and-parts _ _ h in (p, each xs q)
+each test [] h = tt
+each test (x ∷ xs) h = let (p, q) = and-parts _ _ h in (p, each test xs q)
 
 fit : {x a b a1 b1 : Float} → Small x → Small a → Small b → Small a1 → Small b1 → Fit x a b a1 b1
 fit x a b a1 b1 = record { at-x = x; at-a = a; at-b = b; height-a = a1; height-b = b1 }
@@ -68,7 +68,7 @@ fine-some i e = and-parts _ _ e .1
 module _ (x a b a1 b1 : Float) (h : HandedIn (x ∷ a ∷ b ∷ a1 ∷ b1 ∷ [])) where
   fine : valueRefusal x a b a1 b1 ≡ done → Fit x a b a1 b1
   fine e =
-      let (fx, (fa, (fb, (fa1, (fb1, u))))) = each _ h in
+      let (fx, (fa, (fb, (fa1, (fb1, u))))) = each _ _ h in
       let (p, q) = and-parts _ _ (fine-parts _ _ e .0) in
       let (ab, ab1) = and-parts _ _ q in
       let (pa, pb) = and-parts _ _ ab in
@@ -76,7 +76,7 @@ module _ (x a b a1 b1 : Float) (h : HandedIn (x ∷ a ∷ b ∷ a1 ∷ b1 ∷ []
       fit (small fx p) (small fa pa) (small fb pb) (small fa1 pa1) (small fb1 pb1)
 
   -- not refused
-  told : (P : Float → Type 0) → valueRefusal x a b a1 b1 ≡ done → (Fit x a b a1 b1 → P (valueAt x a b a1 b1)) → P (valueOrRefusal x a b a1 b1 .value)
+  pub told : (P : Float → Type 0) → valueRefusal x a b a1 b1 ≡ done → (Fit x a b a1 b1 → P (valueAt x a b a1 b1)) → P (valueOrRefusal x a b a1 b1 .value)
   told P e f = subst P (beside-done _ _ zeroF e) (f (fine e))
 
   -- or refused: 0 then
@@ -92,7 +92,7 @@ never-nan : (x a b a1 b1 : Float) → HandedIn (x ∷ a ∷ b ∷ a1 ∷ b1 ∷ 
 never-nan x a b a1 b1 h = told-any x a b a1 b1 h Num (finite-num _ zero-finite) (λ m. value-num m)
 
 finite-between : (x a b a1 b1 : Float) → HandedIn (x ∷ a ∷ b ∷ a1 ∷ b1 ∷ []) → In (between a b) x → finite (valueOrRefusal x a b a1 b1 .value) ≡ true
-finite-between x a b a1 b1 h i = told-any x a b a1 b1 h (λ (v : Float). finite v ≡ true) zero-finite (λ m. value-finite m i)
+finite-between x a b a1 b1 h i = told-any x a b a1 b1 h (λ (v : Float). finite v ≡ true) zero-finite (λ m. value-value m i .is-finite)
 
 -- ---- the cuts
 value-number : {x a b a1 b1 : Float} → Fit x a b a1 b1 → number (valueAt x a b a1 b1) ≡ true
@@ -103,7 +103,7 @@ module _ (a b : Point) (w : Rect) (h : HandedIn (floatsOf a b w)) (p : (pointFin
   pub along-both : ((d : Bool) → Fit (endOf (w .x) d) (a .x) (b .x) (a .y) (b .y)) × ((d : Bool) → Fit (endOf (w .y) d) (a .y) (b .y) (a .x) (b .x))
   unfolding windowFine
   along-both =
-      let (fax, (fay, (fbx, (fby, (xl, (xh, (yl, (yh, u)))))))) = each _ h in
+      let (fax, (fay, (fbx, (fby, (xl, (xh, (yl, (yh, u)))))))) = each _ _ h in
       let (pa, pb) = and-parts _ _ p in
       let (ax, ay) = and-parts _ _ pa in
       let (bx, by) = and-parts _ _ pb in
@@ -115,7 +115,7 @@ module _ (a b : Point) (w : Rect) (h : HandedIn (floatsOf a b w)) (p : (pointFin
   any-asks : (r : Rect) → every number (boxAsks a b w r) ≡ true
   any-asks r = let (x, y) = along-both in box-any number a b w r (λ d. value-number (x d)) (λ d. value-number (y d))
 
-  window-some : SomeRect w
+  pub window-some : SomeRect w
   unfolding windowFine
   window-some = let (x, y) = and-parts _ _ q in record { x = fine-some _ x; y = fine-some _ y }
 
@@ -126,21 +126,21 @@ module _ (a b : Point) (w : Rect) (h : HandedIn (floatsOf a b w)) (p : (pointFin
       some {a = a} {b = b} m = in-some _ _ (between-in a b (num-a m) (num-b m) .0)
 
   -- a part of the edge's own box, and that box itself
-  own-box : PartRect (boxOf a b) (boxOf a b)
+  pub own-box : PartRect (boxOf a b) (boxOf a b)
   own-box = record { x = part-refl _ (first-some .x); y = part-refl _ (first-some .y) }
 
   own-asks : (r : Rect) → PartRect r (boxOf a b) → OwnAsks a b w r
   own-asks r part =
       let (x, y) = along-both in
       record {
-        on-x = x-own _ a b w r part window-some (λ d i. plane .holds-in _ _ .1 (value-between (x d) i));
-        on-y = y-own _ a b w r part window-some (λ d i. plane .holds-in _ _ .1 (value-between (y d) i));
+        on-x = rw every-map (x-own _ a b w r part window-some (λ d i. plane .holds-in _ _ .1 (value-between (x d) i)));
+        on-y = rw every-map (y-own _ a b w r part window-some (λ d i. plane .holds-in _ _ .1 (value-between (y d) i)));
       }
 
   finite-asks : every finite (boxAsks a b w (boxOf a b)) ≡ true
   finite-asks =
       let (x, y) = along-both in
-      box-asks finite a b w (boxOf a b) (x-own finite a b w _ own-box window-some (λ d. value-finite (x d))) (y-own finite a b w _ own-box window-some (λ d. value-finite (y d)))
+      box-asks finite a b w (boxOf a b) (x-own _ a b w _ own-box window-some (λ d i. value-value (x d) i .is-finite)) (y-own _ a b w _ own-box window-some (λ d i. value-value (y d) i .is-finite))
 
   corners-finite : (i j : Bool) → finite (offLine (orthoOf (differenceOf b a)) a w i j) ≡ true
   corners-finite i j = let (x, y) = along-both in off-line-finite (omega arith) (x i) (y j)
@@ -149,7 +149,7 @@ module _ (a b : Point) (w : Rect) (h : HandedIn (floatsOf a b w)) (p : (pointFin
 module _ (a0 b0 : Float) (i : Interval) (a1 b1 : Float) (j : Interval) (neg : Bool) (w : Interval) (h : HandedIn (a0 ∷ b0 ∷ a1 ∷ b1 ∷ w .lo ∷ w .hi ∷ [])) (e : axisRefusal a0 b0 i a1 b1 j w ≡ done) where
   along-one : (d : Bool) → Fit (endOf w d) a0 b0 a1 b1
   along-one d =
-      let (fa0, (fb0, (fa1, (fb1, (l, (u, v)))))) = each _ h in
+      let (fa0, (fb0, (fa1, (fb1, (l, (u, v)))))) = each _ _ h in
       let (p, q) = fine-parts _ _ e in
       let (p0, p1) = and-parts _ _ (and-parts _ _ p .0) in
       let (pa0, pb0) = and-parts _ _ p0 in
@@ -157,10 +157,10 @@ module _ (a0 b0 : Float) (i : Interval) (a1 b1 : Float) (j : Interval) (neg : Bo
       fit (small-end w l u q d) (small fa0 pa0) (small fb0 pb0) (small fa1 pa1) (small fb1 pb1)
 
   axis-asks : every number (axisAsks a0 b0 i a1 b1 j neg w) ≡ true
-  axis-asks = axis-any number a0 b0 i a1 b1 j neg w (λ d. value-number (along-one d))
+  axis-asks = rw every-map (axis-any _ a0 b0 i a1 b1 j neg w (λ d. value-number (along-one d)))
 
   axis-own-asks : Part i (between a0 b0) → every (holds (between a1 b1)) (axisAsks a0 b0 i a1 b1 j neg w) ≡ true
-  axis-own-asks part = axis-own _ a0 b0 i a1 b1 j neg w part (fine-some _ (fine-parts _ _ e .1)) (λ d k. plane .holds-in _ _ .1 (value-between (along-one d) k))
+  axis-own-asks part = rw every-map (axis-own _ a0 b0 i a1 b1 j neg w part (fine-some _ (fine-parts _ _ e .1)) (λ d k. plane .holds-in _ _ .1 (value-between (along-one d) k)))
 
 -- ---- two cases, computed
 infinite-elsewhere : valueOrRefusal oneF zeroF tiny zeroF oneF ≡ record { number = done; value = inf false }
@@ -168,7 +168,7 @@ unfolding ofBits add sub mul div neg lt le eq when_then_else_ magnitudeOf coordi
 infinite-elsewhere = refl
 
 infinite-asked : axisAsks zeroF tiny (from zeroF to twoF) zeroF oneF (from zeroF to oneF) false (from oneF to twoF) ≡ inf false ∷ []
-unfolding ofBits add sub mul div neg lt le eq when_then_else_ magnitudeOf holds lesser greater between onLine valueAt endOf inward withEnd movedEnd otherMoved sideCut sideAsks highAsks axisAsks
+unfolding ofBits add sub mul div neg lt le eq when_then_else_ magnitudeOf holds lesser greater between onLine valueAt endOf inward withEnd movedEnd otherMoved sideCut sidePlaces highPlaces axisPlaces
 infinite-asked = refl
 
 infinite-missed : axisOrRefusal zeroF tiny (from zeroF to twoF) zeroF oneF (from zeroF to oneF) false (from oneF to twoF) ≡ axesAnswer missed zeroInterval zeroInterval

@@ -7,6 +7,7 @@ use Rattle.float.specs.Float.{zeroF}
 use Rattle.answer.specs.Answer.{done, missed, beside, realAnswer, yesNoAnswer}
 use Rattle.answer.specs.declared.Real.{Real}
 use Rattle.answer.specs.declared.YesNo.{YesNo}
+use Rattle.plane.specs.Point.{at}
 use Rattle.plane.specs.Interval.{endOf}
 use Rattle.plane.specs.Rect.{boxOf}
 use Rattle.plane.specs.Answers.{zeroInterval, zeroRect, intervalAnswer, rectAnswer}
@@ -67,6 +68,13 @@ unfoldable pub pointsOf : Clipped → Segment
 pointsOf (Kept s) = s
 pointsOf Missed = record { ax = zeroF; ay = zeroF; bx = zeroF; by = zeroF }
 pointsOf (Refused n) = record { ax = zeroF; ay = zeroF; bx = zeroF; by = zeroF }
+
+-- the two kept points
+abbrev pub firstOf : Segment → Point
+firstOf s = at (s .ax) (s .ay)
+
+abbrev pub secondOf : Segment → Point
+secondOf s = at (s .bx) (s .by)
 
 -- ---- clip_edge_bound, clip_bound_axis, update_endpoint
 

@@ -4,5 +4,6 @@ pub mod Turns
 pub mod Refuse
 pub mod Answers
 pub mod Values
+pub mod Near
 pub mod Promises
 pub mod Inner

@@ -6,7 +6,7 @@ use mathlib.Core.Bool.{Bool, true, false}
 use lib.Ieee.{Float, isNan, le}
 use Rattle.float.specs.Choice.{_and_}
 use Rattle.answer.specs.Answer.{done, missed, notFinite, badWindow}
-use Rattle.plane.specs.Point.{at, differenceOf, orthoOf}
+use Rattle.plane.specs.Point.{differenceOf, orthoOf}
 use Rattle.plane.specs.Interval.{isEmpty, finiteInterval}
 use Rattle.plane.specs.Rect.{boxOf}
 use Rattle.plane.specs.Answers.{rectAnswer}
@@ -26,8 +26,9 @@ use Rattle.clip.specs.declared.Segment.{Segment}
 use Rattle.clip.specs.declared.Clipped.the-variants.{Kept}
 use Rattle.clip.specs.Cut.{movedEnd, axisCut, boxCut, offLine, farthest, nearest, edgeMeets}
 use Rattle.clip.specs.Refuse.{coordinate, side, coordinates, pointFine, boundFine, boxFine, sidesFine, windowFine, edgeRefusal, boundRefusal}
-use Rattle.clip.specs.Answers.{whole, clipped, numberOf, pointsOf, boundOrRefusal, axisOrRefusal, endAnswer, endOrRefusal, meetsOrRefusal, valueOrRefusal}
+use Rattle.clip.specs.Answers.{whole, clipped, numberOf, pointsOf, firstOf, secondOf, boundOrRefusal, axisOrRefusal, endAnswer, endOrRefusal, meetsOrRefusal, valueOrRefusal}
 use Rattle.clip.specs.Values.{HandedIn, floatsOf, Values}
+use Rattle.clip.specs.Near.{NearLine}
 
 -- nothing is refused of the edge and the window
 abbrev pub Fine : Point → Point → Rect → Type 0
@@ -77,13 +78,6 @@ pub record KeptBox (window first box : Rect) : Type 0 where
   pub in-first : PartRect box first
   pub finite-ends : EndsRect box
 
--- the two kept points
-abbrev pub firstOf : Segment → Point
-firstOf s = at (s .ax) (s .ay)
-
-abbrev pub secondOf : Segment → Point
-secondOf s = at (s .bx) (s .by)
-
 -- both lie in the rectangle
 pub record BothIn (r : Rect) (s : Segment) : Type 0 where
   pub a : InRect r (firstOf s)
@@ -92,6 +86,7 @@ pub record BothIn (r : Rect) (s : Segment) : Type 0 where
 pub record Promises : Type 0 where
   pub numbers : Numbers
   pub values : Values
+  pub near : NearLine
   -- moving an end never widens
   pub never-wider : (i : Interval) (high : Bool) (v : Float) → finiteInterval i ≡ true
       → endAnswer (movedEnd i high v) .number ≡ done → NoWider (endAnswer (movedEnd i high v) .interval) i

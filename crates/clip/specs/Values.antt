@@ -2,7 +2,7 @@
 -- Statements only; proofs/Values.antt has the proofs.
 use mathlib.Core.Path.{_≡_}
 use mathlib.Core.Bool.{Bool, true, false, not}
-use mathlib.Core.List.{List, [], _∷_, _++_}
+use mathlib.Core.List.{List, [], _∷_, _++_, map}
 use lib.Ieee.{Float, inf, binary64, eq, fits, isNan, ofBits}
 use Rattle.float.specs.Choice.{when_then_else_, _and_}
 use Rattle.float.specs.Float.{zeroF, oneF, finite}
@@ -40,38 +40,50 @@ abbrev pub floatsOf : Point → Point → Rect → List Float
 floatsOf a b window =
     a .x ∷ a .y ∷ b .x ∷ b .y ∷ window .x .lo ∷ window .x .hi ∷ window .y .lo ∷ window .y .hi ∷ []
 
--- ---- the values that a cut asks for, in the order of Cut.antt
+-- ---- the places at which a cut asks the line, in the order of Cut.antt: sides of the window
 
--- one where an end of the other axis is to be moved: where the box reaches past the side, and its other end does not
-unfoldable pub sideAsks : Bool → Float → Float → Interval → Float → Float → Interval → List Float
-sideAsks high a0 b0 this a1 b1 window =
+-- the side, where an end of the other axis is to be moved: where the box reaches past it, and its other end does not
+unfoldable pub sidePlaces : Bool → Interval → Interval → List Float
+sidePlaces high this window =
     let side = endOf window high in
     when inward high side (endOf this high) then
     when inward high side (endOf this (not high)) then []
-    else valueAt side a0 b0 a1 b1 ∷ []
+    else side ∷ []
     else []
 
--- those of the low side, then those of the high side on what it left
-unfoldable pub highAsks : Float → Float → Float → Float → Interval → AxisCut → List Float
-highAsks a0 b0 a1 b1 window (Left s) = sideAsks true a0 b0 (s .this) a1 b1 window
-highAsks a0 b0 a1 b1 window Gone = []
+-- that of the low side, then that of the high side on what it left
+unfoldable pub highPlaces : Interval → AxisCut → List Float
+highPlaces window (Left s) = sidePlaces true (s .this) window
+highPlaces window Gone = []
 
-unfoldable pub axisAsks : Float → Float → Interval → Float → Float → Interval → Bool → Interval → List Float
-axisAsks a0 b0 this a1 b1 other negative window =
-    sideAsks false a0 b0 this a1 b1 window ++ highAsks a0 b0 a1 b1 window (sideCut false a0 b0 this a1 b1 other negative window)
+unfoldable pub axisPlaces : Float → Float → Interval → Float → Float → Interval → Bool → Interval → List Float
+axisPlaces a0 b0 this a1 b1 other negative window =
+    sidePlaces false this window ++ highPlaces window (sideCut false a0 b0 this a1 b1 other negative window)
 
 -- those of axis x, then those of axis y on what x left
-unfoldable pub yAsks : Point → Point → Bool → Interval → AxisCut → List Float
-yAsks a b negative window (Left s) = axisAsks (a .y) (b .y) (s .other) (a .x) (b .x) (s .this) negative window
-yAsks a b negative window Gone = []
+unfoldable pub yPlaces : Point → Point → Bool → Interval → AxisCut → List Float
+yPlaces a b negative window (Left s) = axisPlaces (a .y) (b .y) (s .other) (a .x) (b .x) (s .this) negative window
+yPlaces a b negative window Gone = []
+
+abbrev pub placesOnX : Point → Point → Rect → Rect → List Float
+placesOnX a b window box = axisPlaces (a .x) (b .x) (box .x) (a .y) (b .y) (box .y) (negativeSlope a b) (window .x)
+
+abbrev pub placesOnY : Point → Point → Rect → Rect → List Float
+placesOnY a b window box =
+    let negative = negativeSlope a b in
+    yPlaces a b negative (window .y) (axisCut (a .x) (b .x) (box .x) (a .y) (b .y) (box .y) negative (window .x))
+
+-- ---- the values that it asks for there
+
+abbrev pub axisAsks : Float → Float → Interval → Float → Float → Interval → Bool → Interval → List Float
+axisAsks a0 b0 this a1 b1 other negative window =
+    map (λ (x : Float). valueAt x a0 b0 a1 b1) (axisPlaces a0 b0 this a1 b1 other negative window)
 
 abbrev pub asksOnX : Point → Point → Rect → Rect → List Float
-asksOnX a b window box = axisAsks (a .x) (b .x) (box .x) (a .y) (b .y) (box .y) (negativeSlope a b) (window .x)
+asksOnX a b window box = map (λ (x : Float). valueAt x (a .x) (b .x) (a .y) (b .y)) (placesOnX a b window box)
 
 abbrev pub asksOnY : Point → Point → Rect → Rect → List Float
-asksOnY a b window box =
-    let negative = negativeSlope a b in
-    yAsks a b negative (window .y) (axisCut (a .x) (b .x) (box .x) (a .y) (b .y) (box .y) negative (window .x))
+asksOnY a b window box = map (λ (y : Float). valueAt y (a .y) (b .y) (a .x) (b .x)) (placesOnY a b window box)
 
 unfoldable pub boxAsks : Point → Point → Rect → Rect → List Float
 boxAsks a b window box = asksOnX a b window box ++ asksOnY a b window box

@@ -1,4 +1,4 @@
--- What specs/Laws.antt promises, proved: comparisons, exact operations, Sterbenz's law, monotone rounding and what is handed in, over every format.
+-- What specs/Laws.antt promises, proved: comparisons, exact operations, Sterbenz's law, monotone rounding, its errors and what is handed in, over every format.
 use mathlib.Core.Path.{_≡_, refl, sym, _∙_}
 use mathlib.Core.Logic.{inl, inr}
 use mathlib.Core.Bool.{Bool, true, false, not}
@@ -19,6 +19,7 @@ use Rattle.float.proofs.Values.{Is, held, is-finite, is-sign, is-mag, l
 use Rattle.float.proofs.Signed.{below-Z, level-Z, leq-Z, turned}
 use Rattle.float.proofs.Rounded.{Net, net-ge, net-lt, round-fix, exact-sum, exact-difference, exact-product, exact-quotient}
 pub use Rattle.float.proofs.Monotone.{monotone}
+pub use Rattle.float.proofs.Errors.{errors}
 
 pub compared : (f : Format) (x y : Float) → Value f x → Value f y → Compared f x y
 compared f x y v w =
@@ -71,4 +72,4 @@ handed f =
 
 -- ---- all of it
 pub laws : Laws
-laws = record { compared = compared; exact = exact; sterbenz = sterbenz; monotone = monotone; handed = handed }
+laws = record { compared = compared; exact = exact; sterbenz = sterbenz; monotone = monotone; errors = errors; handed = handed }

@@ -23,6 +23,10 @@ pub mod SumOrder
 pub mod ProductOrder
 pub mod Sums
 pub mod Unit
+pub mod Less
+pub mod Apart
+pub mod Fraction
+pub mod Errors
 pub mod Laws
 pub mod UpTo
 pub mod Bounded

@@ -2,8 +2,10 @@
 use mathlib.Core.Path.{_≡_, refl, sym, _∙_}
 use mathlib.Core.Bool.{true, false, false≢true}
 use Prim.Native.Nat.{ℕ, _*_, _^_, _≤_}
+use native.Mathlib.Nat.{mul-le-mul-right}
 use native.Mathlib.Omega.{arith}
-use borrow.Author.Tests.{leb-true}
+use borrow.Author.Tests.{leb-true, le-leb}
+use lib.Pow.{pow-mono}
 use lib.IntN.{pos}
 use lib.Ieee.{Float, nan, inf, fin, Format, low, le, lt, eq, fits}
 use Rattle.float.specs.Float.{finite, magnitudeOf}
@@ -35,3 +37,10 @@ pub test-up-to : (f : Format) (k : ℕ) (x : Float) → fits f x ≡ true → le
 test-up-to f k x t h =
     let v : Value f x = record { is-finite = test-finite x k h; held = t } in
     record { value = v; size = leb-true _ _ (sym (le-units (drop-sign (held v .is-own)) (power-is f k)) ∙ h) }
+
+pub power-le : (f : Format) {j k : ℕ} → j ≤ k → le (power j) (power k) ≡ true
+power-le f {j} {k} h = le-units (power-is f j) (power-is f k) ∙ le-leb _ _ (mul-le-mul-right (2 ^ low f) (pow-mono h))
+
+-- a value of so many units passes it
+pub up-to-test : (f : Format) (k : ℕ) (x : Float) → Value f x → mag f x ≤ powerUnits f k → le (magnitudeOf x) (power k) ≡ true
+up-to-test f k x v h = le-units (drop-sign (held v .is-own)) (power-is f k) ∙ le-leb _ _ h

@@ -1,4 +1,4 @@
--- What is promised of the operations on floats, over every format: comparison and rounding against exact values, and that a float which is handed in is a value of its format. Statements only; proofs/Laws.antt has their proofs.
+-- What is promised of the operations on floats, over every format: comparison and rounding against exact values, how far a rounded result is from the exact one, and that a float which is handed in is a value of its format. Statements only; proofs/Laws.antt has their proofs.
 -- The order of all values, infinities and the NaN among them, is in proofs/Order.antt.
 use Prim.Native.Nat.{ℕ, _*_, _^_, _≤_, _<_}
 use mathlib.Core.Path.{_≡_}
@@ -8,6 +8,7 @@ use lib.Signed.{ltZ, leZ}
 use lib.Ieee.{Float, Format, low, round, add, sub, mul, div, lt, le, eq, fits, ofBits, toBits}
 use Rattle.float.specs.Float.{finite, signBit}
 use Rattle.float.specs.Exact.{mag, signed, units, eqZ, Value}
+use Rattle.float.specs.Errors.{Errors}
 
 -- comparisons are those of the exact values
 pub record Compared (f : Format) (x y : Float) : Type 0 where
@@ -45,4 +46,5 @@ pub record Laws : Type 0 where
   pub exact : (f : Format) (x y z : Float) → Value f x → Value f y → Value f z → Exact f x y z
   pub sterbenz : (f : Format) (x y : Float) → Value f x → Value f y → Sterbenz f x y
   pub monotone : (f : Format) → Monotone f
+  pub errors : (f : Format) (x y : Float) → Value f x → Value f y → Errors f x y
   pub handed : (f : Format) → Handed f

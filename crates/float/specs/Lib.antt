@@ -2,4 +2,5 @@
 pub mod Choice
 pub mod Float
 pub mod Exact
+pub mod Errors
 pub mod Laws

@@ -120,9 +120,14 @@ first-byte : (c : Clipped) → getD (cutBytes c) 0 0 ≡ numberOf c
 unfolding recordOf recordBytes headBytes
 first-byte c = refl
 
+-- byte 0 of record k is its edge's number
+pub number-is : (touches : Bool) (w : Rect) (ps : List Point) (k : ℕ) → k + 1 < length ps
+    → getD (recordAt k (recordsOf (cutsOf touches w ps))) 0 0 ≡ numberOf (edgeCut touches w (sampleAt k ps) (sampleAt (k + 1) ps))
+number-is touches w ps k h = ap (λ (bs : List ℕ). getD bs 0 0) (record-is touches w ps k h) ∙ first-byte _
+
 pub dead : (touches : Bool) (w : Rect) (ps : List Point) (k : ℕ) → k + 1 < length ps
     → (getD (recordAt k (recordsOf (cutsOf touches w ps))) 0 0 ≡ 2) ↔ ((pointFine (sampleAt k ps) and pointFine (sampleAt (k + 1) ps)) ≡ false)
 dead touches w ps k h =
-    let e = ap (λ (bs : List ℕ). getD bs 0 0) (record-is touches w ps k h) ∙ first-byte _ in
+    let e = number-is touches w ps k h in
     let (p, q) = edge-dead touches w (sampleAt k ps) (sampleAt (k + 1) ps) in
     (λ f. p (sym e ∙ f), λ f. e ∙ q f)

@@ -11,7 +11,7 @@ use Rattle.trace.specs.Answers.{traceAnswer}
 use Rattle.trace.specs.Promises.{Promises}
 use Rattle.trace.proofs.Cuts.{length-trace, all-kinds}
 use Rattle.trace.proofs.Own.{own-samples, two-at-most, dead}
-use Rattle.trace.proofs.OwnEnd.{end-kept, own-asks}
+use Rattle.trace.proofs.OwnEnd.{end-kept, own-asks, kept-near}
 use Rattle.trace.proofs.Joins.{joins}
 
 -- zeros add up too
@@ -34,5 +34,6 @@ promises =
       dead = dead;
       end-kept = end-kept;
       own-asks = own-asks;
+      kept-near = kept-near;
       joins = joins;
     }

@@ -1,5 +1,5 @@
 -- What is promised of a trace, whether touches are kept or not. Statements only; proofs/Promises.antt has their proofs.
-use Prim.Native.Nat.{ℕ, _+_, _-_, _*_, _/_, _%_, _<_}
+use Prim.Native.Nat.{ℕ, _+_, _-_, _*_, _/_, _%_, _≤_, _<_}
 use mathlib.Core.Path.{_≡_}
 use mathlib.Core.Logic.{_↔_, _⊎_}
 use mathlib.Core.Bool.{Bool, true, false}
@@ -7,16 +7,16 @@ use mathlib.Core.List.{List, [], _∷_, _++_}
 use lib.Ieee.{Float}
 use lib.ListN.{length, take, drop, getD, set}
 use Rattle.float.specs.Choice.{_and_}
-use Rattle.answer.specs.Answer.{notFinite}
+use Rattle.answer.specs.Answer.{done, notFinite}
 use Rattle.plane.specs.Point.{origin}
 use Rattle.plane.specs.Rect.{boxOf}
 use Rattle.plane.specs.Within.{InRect}
 use Rattle.plane.specs.declared.point.Point.{Point}
 use Rattle.plane.specs.declared.rect.Rect.{Rect}
 use Rattle.clip.specs.Refuse.{pointFine, windowFine}
-use Rattle.clip.specs.Answers.{whole}
-use Rattle.clip.specs.Values.{HandedIn, floatsOf, OwnAsks}
-use Rattle.clip.specs.Promises.{firstOf, secondOf}
+use Rattle.clip.specs.Answers.{whole, firstOf, secondOf}
+use Rattle.clip.specs.Values.{every, HandedIn, floatsOf, OwnAsks}
+use Rattle.clip.specs.Near.{within, KeptFrom}
 use Rattle.clip.specs.declared.Segment.{Segment}
 use Rattle.clip.specs.declared.Clipped.{Clipped}
 use Rattle.clip.specs.declared.Clipped.the-variants.{Kept}
@@ -51,6 +51,13 @@ pub record KeptEnds (w : Rect) (a b : Point) (bytes : List ℕ) : Type 0 where
   pub first : InRect w a → firstOf points ≡ a
   pub second : InRect w b → secondOf points ≡ secondOf (whole a b)
 
+-- the bytes are a kept edge's, and each of its two points is the own sample as it was, or was cut at sides of the window and is within 2 ^ (k - 50) of the line
+pub record KeptNear (k : ℕ) (w : Rect) (a b : Point) (bytes : List ℕ) : Type 0 where
+  pub points : Segment
+  pub kept : bytes ≡ cutBytes (Kept points)
+  pub first : KeptFrom k a b w a (firstOf points)
+  pub second : KeptFrom k a b w (secondOf (whole a b)) (secondOf points)
+
 pub record Promises : Type 0 where
   -- one edge fewer than samples, and none of no sample
   pub edges : (touches : Bool) (w : Rect) (fs : List Float) → length (traceCuts touches w fs) ≡ length fs / 2 - 1
@@ -76,6 +83,11 @@ pub record Promises : Type 0 where
   pub own-asks : (touches : Bool) (w : Rect) (ps : List Point) (k : ℕ) → LiveEdge w ps k
       → let a = sampleAt k ps in let b = sampleAt (k + 1) ps in
       (recordAt k (recordsOf (cutsOf touches w ps)) ≡ cutBytes (edgeCut touches w a b)) × OwnAsks a b w (boxOf a b)
+  -- where samples i and i + 1 are at most 2 ^ k, so for k = 0 in -1..1, and record i is kept, its points are near the line
+  pub kept-near : (touches : Bool) (w : Rect) (ps : List Point) (i : ℕ) → LiveEdge w ps i → (k : ℕ) → k ≤ 500
+      → let a = sampleAt i ps in let b = sampleAt (i + 1) ps in
+      every (within k) (a .x ∷ a .y ∷ b .x ∷ b .y ∷ []) ≡ true → getD (recordAt i (recordsOf (cutsOf touches w ps))) 0 0 ≡ done
+      → KeptNear k w a b (recordAt i (recordsOf (cutsOf touches w ps)))
   -- a trace cut at the sample x, y, which is sent in both halves
   pub joins : (touches : Bool) (w : Rect) (fs gs : List Float) (x y : Float) → length fs % 2 ≡ 0
       → Joined (traceCuts touches w (fs ++ (x ∷ y ∷ gs)))
