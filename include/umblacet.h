@@ -198,10 +198,10 @@ umb_rect_answer umb_rect_intersection(umb_rect r, umb_rect q);
 /* The part of the edge from a to b that lies in the window. Of these numbers: 2, 3, then 1 where nothing is left, or 0.
  * Kept points lie in the window and in the edge's own box. Where a or b lies in the window the edge is kept and that
  * end comes back as it was, so an edge inside the window does (where a and b compare equal on an axis, both with a's
- * coordinate). A point that was cut lies exactly on a side of the window that its own end is beyond; where no coordinate
- * of a and b is beyond 2^k it is within 2^(k-50) of the exact line through them, along one of the axes, as long as they
- * are at least 2^-500 apart on the axis that is cut (where a corner of the window is kept, on both). So of coordinates
- * in -1..1 it is within 2^-50. A dead sample is never joined to anything. */
+ * coordinate). A point that was cut lies exactly on a side of the window that its own end is beyond. Of coordinates of
+ * a and b in -1..1 it is within 2^-50 of the exact line through them, along one of the axes, as long as they are at
+ * least 2^-500 apart on the axis that is cut (where a corner of the window is kept, on both); of coordinates up to 2^k,
+ * for a whole k from 0 to 500, within 2^(k-50). A dead sample is never joined to anything. */
 umb_cut umb_clip_edge(umb_point a, umb_point b, umb_rect window);
 /* Whether the edge meets the window. Of these numbers: 2, 3, 0. It is the crate's test, which rounds: it need not agree
  * with umb_clip_edge, least of all where the ends are far out or its products underflow. */
@@ -215,9 +215,9 @@ umb_axes umb_clip_bound_axis(double a0, double b0, umb_interval bound0, double a
 /* The bound with its high end, or its low, moved to the value; never wider. 2, 1 where nothing is left, or 0. */
 umb_interval_answer umb_update_endpoint(umb_interval bound, bool high_endpoint, double value);
 /* The value at x on the line through (a, a1) and (b, b1). For x from a to b, in either order, it lies between a1 and
- * b1, and is a1 at a and b1 at b, as numbers (where a = b, a1); and where a1 and b1 are not beyond 2^k, and a and b at
- * least 2^-500 apart, it is within 2^(k-50) of the exact line, so of heights in -1..1 within 2^-50. Beyond a and b it
- * may be infinite; it is no NaN. 2 or 0. */
+ * b1, and is a1 at a and b1 at b, as numbers (where a = b, a1); and where a and b are at least 2^-500 apart it is
+ * within 2^-50 of the exact line for a1 and b1 in -1..1, and within 2^(k-50) for a1 and b1 up to 2^k, k being whole and
+ * from 0 to 500. Beyond a and b it may be infinite; it is no NaN. 2 or 0. */
 umb_real umb_interpolate(double x, double a, double b, double a1, double b1);
 
 /* ---- a whole trace in one call */

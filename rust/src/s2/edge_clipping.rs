@@ -11,9 +11,10 @@ use crate::Refusal;
 /// The part of the edge from a to b that lies in the window: its two points lie in the window and in the edge's own
 /// box. Where a or b lies in the window the edge is kept and that end comes back as it was, so an edge inside the
 /// window does (where a and b compare equal on an axis, both with a's coordinate). A point that was cut lies exactly on
-/// a side of the window that its own end is beyond; where no coordinate of a and b is beyond 2^k it is within 2^(k-50)
-/// of the exact line through them, along one of the axes, as long as they are at least 2^-500 apart on the axis that is
-/// cut (where a corner of the window is kept, on both). Refused with NotFinite, BadWindow, Missed.
+/// a side of the window that its own end is beyond. Of coordinates of a and b in -1..1 it is within 2^-50 of the exact
+/// line through them, along one of the axes, as long as they are at least 2^-500 apart on the axis that is cut (where a
+/// corner of the window is kept, on both); of coordinates up to 2^k, for a whole k from 0 to 500, within 2^(k-50).
+/// Refused with NotFinite, BadWindow, Missed.
 pub fn clip_edge(a: Point, b: Point, clip: Rect) -> Result<(Point, Point), Refusal> {
     ffi::umb_clip_edge(a, b, clip).map(|Pair(a, b)| (a, b))
 }
@@ -52,9 +53,9 @@ pub fn update_endpoint(bound: Interval, high_endpoint: bool, value: f64) -> Resu
 }
 
 /// The value at x on the line through (a, a1) and (b, b1). For x from a to b, in either order, it lies between a1 and
-/// b1, and is a1 at a and b1 at b, as numbers (where a = b, a1); and where a1 and b1 are not beyond 2^k, and a and b at
-/// least 2^-500 apart, it is within 2^(k-50) of the exact line. Beyond a and b it may be infinite; it is no NaN. Refused
-/// with NotFinite.
+/// b1, and is a1 at a and b1 at b, as numbers (where a = b, a1); and where a and b are at least 2^-500 apart it is
+/// within 2^-50 of the exact line for a1 and b1 in -1..1, and within 2^(k-50) for a1 and b1 up to 2^k, k being whole
+/// and from 0 to 500. Beyond a and b it may be infinite; it is no NaN. Refused with NotFinite.
 pub fn interpolate(x: f64, a: f64, b: f64, a1: f64, b1: f64) -> Result<f64, Refusal> {
     ffi::umb_interpolate(x, a, b, a1, b1)
 }
