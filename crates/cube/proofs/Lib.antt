@@ -3,6 +3,7 @@ pub mod Six
 pub mod Directions
 pub mod Vectors
 pub mod Neighbours
+pub mod ByAxes
 pub mod Greatest
 pub mod Square
 pub mod ReadBack

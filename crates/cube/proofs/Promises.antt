@@ -3,6 +3,7 @@ use Rattle.cube.specs.Faces.{faceOf}
 use Rattle.cube.specs.Promises.{Promises}
 use Rattle.cube.proofs.Directions.{point-uvw}
 use Rattle.cube.proofs.Neighbours.{neighbours}
+use Rattle.cube.proofs.ByAxes.{neighbours-by-axes, neighbours-along}
 use Rattle.cube.proofs.Greatest.{face-greatest, face-only}
 use Rattle.cube.proofs.Square.{square}
 use Rattle.cube.proofs.ReadBack.{read-back}
@@ -17,6 +18,8 @@ promises =
       read-back = read-back;
       point-uvw = point-uvw;
       neighbours = neighbours;
+      neighbours-by-axes = neighbours-by-axes;
+      neighbours-along = neighbours-along;
       axes = axes;
       norms = norms;
     }

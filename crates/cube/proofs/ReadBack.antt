@@ -20,7 +20,7 @@ use Rattle.cube.specs.Faces.{byFace, along, absolute, faceOf, pointAt}
 use Rattle.cube.specs.Refuse.{cubeRefusal, vectorRefusal, sideNumber, sideRefusal}
 use Rattle.cube.specs.Promises.{ownAxis, Greatest, ReadBack}
 use Rattle.cube.specs.declared.vector.Vector.{Vector}
-use Rattle.cube.proofs.Six.{six, three, upTo, at, both}
+use Rattle.cube.proofs.Six.{six, three, upTo, at, both, beq-is}
 use Rattle.cube.proofs.Directions.{along-size, uv-is, atPoint, along-point, point-u, point-v, point-w}
 use Rattle.cube.proofs.Greatest.{face-greatest, face-only}
 use Rattle.cube.proofs.Vectors.{along-finite, finite-vector, zero-along}
@@ -36,12 +36,6 @@ right f i = leb (atPoint f i) 5 && Bool·beq (eqb (ownAxis (atPoint f i)) 2) (eq
 all-right : upTo 5 (λ f. upTo 2 (λ i. right f i)) ≡ true
 unfolding right atPoint byFace
 all-right = refl
-
-beq-is : (a b : Bool) → Bool·beq a b ≡ true → a ≡ b
-beq-is true true e = refl
-beq-is true false e = absurd (true≢false (sym e))
-beq-is false true e = absurd (true≢false (sym e))
-beq-is false false e = refl
 
 right-at : (f i : ℕ) → f ≤ 5 → i ≤ 2 → (atPoint f i ≤ 5) × (eqb (ownAxis (atPoint f i)) 2 ≡ eqb i (ownAxis f))
 unfolding right

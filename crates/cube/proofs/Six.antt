@@ -1,8 +1,8 @@
 -- What belongs to each of six faces: a fact at each is a fact at all, and a test that is computed at each holds at all.
-use mathlib.Core.Path.{_≡_, refl}
+use mathlib.Core.Path.{_≡_, refl, ap}
 use mathlib.Core.Logic.{inl, inr}
-use mathlib.Core.Bool.{Bool, true, false, _&&_, false≢true}
-use Prim.Native.Nat.{ℕ, zero, suc, _≤_}
+use mathlib.Core.Bool.{Bool, true, false, _&&_, Bool·beq, false≢true}
+use Prim.Native.Nat.{ℕ, zero, suc, _-_, _≤_, _<_}
 use native.Mathlib.Nat.{eq-or-lt-of-le}
 use native.Mathlib.Omega.{arith}
 use Rattle.cube.specs.Faces.{byFace}
@@ -20,6 +20,13 @@ none-is (suc (suc (suc zero))) a b c d e g none h = absurd (h .0 .0 .1 refl)
 none-is (suc (suc (suc (suc zero)))) a b c d e g none h = absurd (h .0 .1 refl)
 none-is (suc (suc (suc (suc (suc zero))))) a b c d e g none h = absurd (h .1 refl)
 none-is (suc (suc (suc (suc (suc (suc n)))))) a b c d e g none h = refl
+
+-- and as a test before it knows it
+pub beyond-is : {A : Type 0} (f : ℕ) (a b c d e g none : A) → 5 < f → none ≡ byFace f a b c d e g none
+unfolding byFace
+beyond-is f a b c d e g none h =
+    let k : suc (suc (suc (suc (suc (suc (f - 6)))))) ≡ f = omega arith in
+    ap (λ (k : ℕ). byFace k a b c d e g none) k
 
 -- ---- a fact at each face, or at each axis
 pub six : (P : ℕ → Type 0) → P 0 → P 1 → P 2 → P 3 → P 4 → P 5 → (f : ℕ) → f ≤ 5 → P f
@@ -45,6 +52,12 @@ upTo (suc n) t = t (suc n) && upTo n t
 pub both : (p q : Bool) → (p && q) ≡ true → (p ≡ true) × (q ≡ true)
 both true q e = (refl, e)
 both false q e = absurd (false≢true e)
+
+pub beq-is : (p q : Bool) → Bool·beq p q ≡ true → p ≡ q
+beq-is true true e = refl
+beq-is true false e = absurd (false≢true e)
+beq-is false true e = absurd (false≢true e)
+beq-is false false e = refl
 
 pub at : (n : ℕ) (t : ℕ → Bool) → upTo n t ≡ true → (k : ℕ) → k ≤ n → t k ≡ true
 at zero t e zero h = e

@@ -9,6 +9,7 @@ use Rattle.float.specs.Exact.{Value}
 use Rattle.answer.specs.Answer.{done}
 use Rattle.cube.specs.Vector.{vec, finiteVector, isZero}
 use Rattle.cube.specs.Faces.{along, absolute, faceOf, uv, uvOf, pointAt, uvwOf, minusOrPlus, neighbour, uAxis, vAxis, uNorm, vNorm}
+use Rattle.cube.specs.ByAxes.{unitToward, neighbourByAxes}
 use Rattle.cube.specs.Refuse.{vectorRefusal, sideRefusal}
 use Rattle.cube.specs.declared.vector.Vector.{Vector}
 use Rattle.cube.specs.declared.compute.Uv.{Uv}
@@ -61,6 +62,12 @@ pub record TheOneOver (f axis direction g : ℕ) : Type 0 where
   pub over : Over f axis direction g
   pub only : (h : ℕ) → h ≤ 5 → Over f axis direction h → h ≡ g
 
+-- W3 from the axes: the own w of g is 1 at the unit vector r, and of no other face
+pub record TheOneAlong (r : Vector) (g : ℕ) : Type 0 where
+  pub face : g ≤ 5
+  pub along : eq (uvwOf g r .z) oneF ≡ true
+  pub only : (h : ℕ) → h ≤ 5 → eq (uvwOf h r .z) oneF ≡ true → h ≡ g
+
 -- ---- from source document 002: the unit vectors along u and v, and the normals at a u and at a v, in the face's own (u, v, w)
 
 -- the coordinates compare equal: a zero may have the other sign
@@ -92,6 +99,9 @@ pub record Promises : Type 0 where
   pub point-uvw : (f : ℕ) → f ≤ 5 → (u v : Float) → uvwOf f (pointAt f u v) ≡ vec u v oneF
   -- the neighbour over an axis is the one face whose own w is the asked axis in the asked direction
   pub neighbours : (f axis direction : ℕ) → f ≤ 5 → axis ≤ 2 → direction ≤ 1 → TheOneOver f axis direction (neighbour f axis direction)
+  -- so is what W3 finds from the axis directions, and the neighbour is the one face whose own w is the unit vector along the asked axis in the asked direction
+  pub neighbours-by-axes : (f axis direction : ℕ) → f ≤ 5 → axis ≤ 2 → direction ≤ 1 → TheOneOver f axis direction (neighbourByAxes f axis direction)
+  pub neighbours-along : (f axis direction : ℕ) → f ≤ 5 → axis ≤ 2 → direction ≤ 1 → TheOneAlong (unitToward f axis direction) (neighbour f axis direction)
   -- the axes and the normals in the face's own (u, v, w)
   pub axes : (f : ℕ) → f ≤ 5 → Axes f
   pub norms : (f : ℕ) → f ≤ 5 → (c : Float) → finite c ≡ true → Norms f c

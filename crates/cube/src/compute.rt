@@ -1,7 +1,8 @@
 // What the entries compute: any float goes in, NaN and infinities too, and nothing is refused. A
 // `match` on a face has the six rules, and for the rest the zeros that stand beside a refusal.
 ghost use mathlib.Core.Path.{_≡_};
-ghost use Rattle.cube.specs.Faces.{along, greater, faceOf, uvOf, pointAt, uvwOf, minusOrPlus, rowAt, neighbour, uAxis, vAxis, uNorm, vNorm};
+ghost use Rattle.cube.specs.ByAxes.{axisOf, facing};
+ghost use Rattle.cube.specs.Faces.{along, greater, faceOf, uvOf, pointAt, uvwOf, neighbour, uAxis, vAxis, uNorm, vNorm};
 use crate::vector::Vector;
 
 // A point of a face.
@@ -110,39 +111,54 @@ pub fn face_xyz_to_uvw(face: u8, r: Vector) -> Vector
     }
 }
 
-// The neighbour of a face over an axis, u, v or w, in a direction, minus or plus.
+// The neighbour of a face over an axis, u, v or w, in a direction, minus or plus: the face whose own
+// axis points there.
 pub fn uvw_face(face: u8, axis: u8, direction: u8) -> u8
     ensures { λ f. ⌜ f ≡ neighbour face axis direction ⌝ }
 {
-    match face {
-        0 => row_at(axis, direction, 4, 1, 5, 2, 3, 0),
-        1 => row_at(axis, direction, 0, 3, 5, 2, 4, 1),
-        2 => row_at(axis, direction, 0, 3, 1, 4, 5, 2),
-        3 => row_at(axis, direction, 2, 5, 1, 4, 0, 3),
-        4 => row_at(axis, direction, 2, 5, 3, 0, 1, 4),
-        5 => row_at(axis, direction, 4, 1, 3, 0, 2, 5),
-        _ => 0,
+    if face > 5 {
+        return 0;
     }
-}
-
-// Of a row u-, u+, v-, v+, w-, w+ the number over an axis in a direction.
-fn row_at(axis: u8, direction: u8, um: u8, up: u8, vm: u8, vp: u8, wm: u8, wp: u8) -> u8
-    ensures { λ f. ⌜ f ≡ rowAt axis direction um up vm vp wm wp ⌝ }
-{
-    match axis {
-        0 => minus_or_plus(direction, um, up),
-        1 => minus_or_plus(direction, vm, vp),
-        _ => minus_or_plus(direction, wm, wp),
-    }
-}
-
-fn minus_or_plus(direction: u8, minus: u8, plus: u8) -> u8
-    ensures { λ f. ⌜ f ≡ minusOrPlus direction minus plus ⌝ }
-{
+    let plus = facing(uvw_axis(face, axis));
     if direction == 0 {
-        return minus;
+        // The other way points at the opposite face.
+        return (plus + 3) % 6;
     }
     plus
+}
+
+// The unit vector along u, v or w of a face: its own w ends in its middle.
+fn uvw_axis(face: u8, axis: u8) -> Vector
+    ensures { λ a. ⌜ a ≡ axisOf face axis ⌝ }
+{
+    match axis {
+        0 => u_axis(face),
+        1 => v_axis(face),
+        _ => face_uv_to_xyz(face, 0.0, 0.0),
+    }
+}
+
+// The face whose own axis is this unit vector: the sign and the place of its one component that is
+// not zero.
+fn facing(r: Vector) -> u8
+    ensures { λ f. ⌜ f ≡ facing r ⌝ }
+{
+    if r.x > 0.0 {
+        return 0;
+    }
+    if r.y > 0.0 {
+        return 1;
+    }
+    if r.z > 0.0 {
+        return 2;
+    }
+    if r.x < 0.0 {
+        return 3;
+    }
+    if r.y < 0.0 {
+        return 4;
+    }
+    5
 }
 
 // The unit vector along a face's u.

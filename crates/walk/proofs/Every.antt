@@ -5,7 +5,7 @@ use mathlib.Core.Path.{_≡_, refl}
 use lib.Dec.{eqb}
 use Rattle.float.specs.Choice.{when_then_else_}
 use Rattle.cube.specs.Faces.{byFace, minusOrPlus}
-use Rattle.cube.proofs.Six.{upTo, at, both}
+use Rattle.cube.proofs.Six.{upTo, at, both, beq-is}
 use Rattle.cube.proofs.Directions.{uDir, vDir}
 use Rattle.walk.proofs.Kind.{Part, Kind, partAt, nextK, meetsK, real}
 
@@ -41,12 +41,6 @@ unfolding everyP rightAll right nextK meetsK real partAt uDir vDir minusOrPlus w
 all = refl
 
 -- ---- and at each
-beq→ : (a b : Bool) → Bool·beq a b ≡ true → a ≡ b
-beq→ true true h = refl
-beq→ true false h = absurd (false≢true h)
-beq→ false true h = absurd (false≢true h)
-beq→ false false h = refl
-
 given : (b c : Bool) → (elim b [ true ↦ c | false ↦ true ]) ≡ true → b ≡ true → c ≡ true
 given true c h e = h
 given false c h e = absurd (false≢true e)
@@ -59,4 +53,4 @@ six-enough k r t f T F m =
     (everyP-at (λ b. everyP (λ c. rightAll (record { x = k .x; y = b; z = c }))) (everyP-at (λ a. everyP (λ b. everyP (λ c. rightAll (record { x = a; y = b; z = c })))) all (k .x)) (k .y)) (k .z) in
     let b = given (real k) (upTo 5 (λ t. upTo 5 (λ f. right k t f))) a r in
     let c = at 5 (λ f. right k t f) (at 5 (λ t. upTo 5 (λ f. right k t f)) b t T) f F in
-    beq→ (arrives 6 t f k) (meetsK t k) (given (meetsK f k) (Bool·beq (arrives 6 t f k) (meetsK t k)) c m)
+    beq-is (arrives 6 t f k) (meetsK t k) (given (meetsK f k) (Bool·beq (arrives 6 t f k) (meetsK t k)) c m)

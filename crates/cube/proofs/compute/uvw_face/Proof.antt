@@ -1,70 +1,35 @@
--- `uvw_face` is `neighbour`: a row for each face, and the rest.
-use Rattle.cube.proofs.Six.{none-is}
-use Rattle.cube.specs.Faces.{byFace, neighbour}
+-- `uvw_face` is `neighbour`: no face, the direction minus, and plus.
+use Rattle.float.proofs.Choice.{when-eq, when-ne}
+use mathlib.Core.Path.{_∙_}
+use native.Mathlib.Omega.{arith}
 use borrow.Author.Needs.{needs}
+use Rattle.cube.specs.Faces.{minusOrPlus, neighbour}
+use Rattle.cube.proofs.Six.{beyond-is}
+use Rattle.cube.proofs.ByAxes.{facing-le, found-is}
 use Rattle.cube.proofs.compute.uvw_face.Statement.{statement}
 use Rattle.cube.proofs.compute.uvw_face.Tie as tie
 
-row-at-requires : tie.Need-row-at-requires
-row-at-requires c κs = search needs
-
-row-at-requires-2 : tie.Need-row-at-requires-2
-row-at-requires-2 c κs = search needs
-
-row-at-requires-3 : tie.Need-row-at-requires-3
-row-at-requires-3 c κs = search needs
-
-row-at-requires-4 : tie.Need-row-at-requires-4
-row-at-requires-4 c κs = search needs
-
-row-at-requires-5 : tie.Need-row-at-requires-5
-row-at-requires-5 c κs = search needs
-
-row-at-requires-6 : tie.Need-row-at-requires-6
-row-at-requires-6 c κs = search needs
-
 returns : tie.Need-returns
-unfolding byFace neighbour
-returns c = rw (c .before .match .keys1) (c .row-at .ensures)
+unfolding neighbour
+returns c = beyond-is _ _ _ _ _ _ _ _ (c .if1 .taken)
+
+uvw-axis-requires : tie.Need-uvw-axis-requires
+uvw-axis-requires c κs = search needs
+
+facing-requires : tie.Need-facing-requires
+facing-requires c κs = search needs
+
+add-result : tie.Need-add-result
+add-result c = record { fits = rw (c .before .facing .ensures) (omega (arith, facing-le (c .before .before .uvw-axis .result))) }
 
 returns-2 : tie.Need-returns-2
-unfolding byFace neighbour
-returns-2 c = rw (c .before .match .keys2) (c .row-at2 .ensures)
+unfolding minusOrPlus
+returns-2 c = when-eq _ _ _ _ _ (c .if2 .taken) (rw (c .before .facing .ensures, c .before .before .uvw-axis .ensures)) ∙ found-is _ _ _ (c .before .before .before .if1 .left)
 
 returns-3 : tie.Need-returns-3
-unfolding byFace neighbour
-returns-3 c = rw (c .before .match .keys3) (c .row-at3 .ensures)
-
-returns-4 : tie.Need-returns-4
-unfolding byFace neighbour
-returns-4 c = rw (c .before .match .keys4) (c .row-at4 .ensures)
-
-returns-5 : tie.Need-returns-5
-unfolding byFace neighbour
-returns-5 c = rw (c .before .match .keys5) (c .row-at5 .ensures)
-
-returns-6 : tie.Need-returns-6
-unfolding byFace neighbour
-returns-6 c = rw (c .before .match .keys6) (c .row-at6 .ensures)
-
-returns-7 : tie.Need-returns-7
-unfolding byFace neighbour
-returns-7 c = none-is _ _ _ _ _ _ _ _ (c .match .rest)
+unfolding minusOrPlus
+returns-3 c = when-ne _ _ _ _ _ (c .if2 .left) (rw (c .before .facing .ensures, c .before .before .uvw-axis .ensures)) ∙ found-is _ _ _ (c .before .before .before .if1 .left)
 
 pub uvw-face-spec : {M : Type 1} → statement M
 uvw-face-spec =
-    tie.close
-    (tie.spec
-    row-at-requires
-    row-at-requires-2
-    row-at-requires-3
-    row-at-requires-4
-    row-at-requires-5
-    row-at-requires-6
-    returns
-    returns-2
-    returns-3
-    returns-4
-    returns-5
-    returns-6
-    returns-7)
+    tie.close (tie.spec returns uvw-axis-requires facing-requires add-result returns-2 returns-3)
