@@ -7,7 +7,7 @@ use borrow.Author.Tests.{eqb-true, eq-eqb, ne-eqb}
 use lib.Dec.{eqb}
 use lib.Ieee.{lt, eq, neg, ofBits}
 use Rattle.float.specs.Choice.{when_then_else_}
-use Rattle.float.specs.Float.{zeroF, oneF}
+use Rattle.float.specs.Float.{oneF}
 use Rattle.float.proofs.Choice.{cases}
 use Rattle.cube.specs.Faces.{byFace, pointAt, uvwOf, minusOrPlus, rowAt, neighbour, uAxis, vAxis}
 use Rattle.cube.specs.ByAxes.{axisOf, unitToward, facing, neighbourByAxes}

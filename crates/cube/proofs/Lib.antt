@@ -1,5 +1,6 @@
 -- Laws of the six faces that the promises here and in the crates above cite.
 pub mod Six
+pub mod OnFace
 pub mod Directions
 pub mod Vectors
 pub mod Neighbours

@@ -5,10 +5,12 @@ use mathlib.Core.Bool.{Bool, true, false, _&&_, Bool·beq, false≢true}
 use Prim.Native.Nat.{ℕ, zero, suc, _-_, _≤_, _<_}
 use native.Mathlib.Nat.{eq-or-lt-of-le}
 use native.Mathlib.Omega.{arith}
+use borrow.Author.Tests.{lt-leb}
+use lib.Dec.{leb}
 use Rattle.cube.specs.Faces.{byFace}
 
 -- no face, as the last arm of a match knows it
-abbrev Else : ℕ → Type 0
+abbrev pub Else : ℕ → Type 0
 Else f = (((((Unit × (f ≡ 0 → ⊥)) × (f ≡ 1 → ⊥)) × (f ≡ 2 → ⊥)) × (f ≡ 3 → ⊥)) × (f ≡ 4 → ⊥)) × (f ≡ 5 → ⊥)
 
 pub none-is : {A : Type 0} (f : ℕ) (a b c d e g none : A) → Else f → none ≡ byFace f a b c d e g none
@@ -20,6 +22,9 @@ none-is (suc (suc (suc zero))) a b c d e g none h = absurd (h .0 .0 .1 refl)
 none-is (suc (suc (suc (suc zero)))) a b c d e g none h = absurd (h .0 .1 refl)
 none-is (suc (suc (suc (suc (suc zero))))) a b c d e g none h = absurd (h .1 refl)
 none-is (suc (suc (suc (suc (suc (suc n)))))) a b c d e g none h = refl
+
+pub none-le : (f : ℕ) → Else f → leb f 5 ≡ false
+none-le f h = lt-leb f 5 (omega (arith, h .1, h .0 .1, h .0 .0 .1, h .0 .0 .0 .1, h .0 .0 .0 .0 .1, h .0 .0 .0 .0 .0 .1))
 
 -- and as a test before it knows it
 pub beyond-is : {A : Type 0} (f : ℕ) (a b c d e g none : A) → 5 < f → none ≡ byFace f a b c d e g none

@@ -4,5 +4,6 @@ pub mod Faces
 pub mod ByAxes
 pub mod Refuse
 pub mod Answers
+pub mod Inner
 pub mod Entries
 pub mod Promises

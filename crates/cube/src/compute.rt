@@ -1,9 +1,13 @@
-// What the entries compute: any float goes in, NaN and infinities too, and nothing is refused. A
-// `match` on a face has the six rules, and for the rest the zeros that stand beside a refusal.
+// What the entries compute: any float goes in, NaN and infinities too, and none is refused. A `match`
+// on a face has the six rules, and for the rest the refusal, 4.
 ghost use mathlib.Core.Path.{_≡_};
 ghost use Rattle.cube.specs.ByAxes.{axisOf, facing};
+ghost use Rattle.cube.specs.Inner.{onFace, uvOnFace};
 ghost use Rattle.cube.specs.Faces.{along, greater, faceOf, uvOf, pointAt, uvwOf, neighbour, uAxis, vAxis, uNorm, vNorm};
+use crate::UvAnswer;
+use crate::VectorAnswer;
 use crate::vector::Vector;
+use answer::BAD_FACE;
 
 // A point of a face.
 #[repr(C)]
@@ -49,65 +53,53 @@ fn greater(r: Vector, i: u8, j: u8) -> u8
 }
 
 // (u, v) of a vector on a face.
-pub fn valid_face_xyz_to_uv(face: u8, r: Vector) -> Uv
-    ensures { λ p. ⌜ p ≡ uvOf face r ⌝ }
+pub fn valid_face_xyz_to_uv(face: u8, r: Vector) -> UvAnswer
+    ensures { λ a. ⌜ a ≡ uvOnFace face (uvOf face r) ⌝ }
 {
     let x = r.x;
     let y = r.y;
     let z = r.z;
     match face {
-        0 => Uv { u: y / x, v: z / x },
-        1 => Uv {
-            u: -x / y,
-            v: z / y,
-        },
-        2 => Uv {
-            u: -x / z,
-            v: -y / z,
-        },
-        3 => Uv { u: z / x, v: y / x },
-        4 => Uv {
-            u: z / y,
-            v: -x / y,
-        },
-        5 => Uv {
-            u: -y / z,
-            v: -x / z,
-        },
-        _ => Uv { u: 0.0, v: 0.0 },
+        0 => UvAnswer::at(y / x, z / x),
+        1 => UvAnswer::at(-x / y, z / y),
+        2 => UvAnswer::at(-x / z, -y / z),
+        3 => UvAnswer::at(z / x, y / x),
+        4 => UvAnswer::at(z / y, -x / y),
+        5 => UvAnswer::at(-y / z, -x / z),
+        _ => UvAnswer::refused(BAD_FACE),
     }
 }
 
 // The point at (u, v) of a face.
-pub fn face_uv_to_xyz(face: u8, u: f64, v: f64) -> Vector
-    ensures { λ p. ⌜ p ≡ pointAt face u v ⌝ }
+pub fn face_uv_to_xyz(face: u8, u: f64, v: f64) -> VectorAnswer
+    ensures { λ a. ⌜ a ≡ onFace face (pointAt face u v) ⌝ }
 {
     match face {
-        0 => Vector::new(1.0, u, v),
-        1 => Vector::new(-u, 1.0, v),
-        2 => Vector::new(-u, -v, 1.0),
-        3 => Vector::new(-1.0, -v, -u),
-        4 => Vector::new(v, -1.0, -u),
-        5 => Vector::new(v, u, -1.0),
-        _ => Vector::ZERO,
+        0 => VectorAnswer::at(1.0, u, v),
+        1 => VectorAnswer::at(-u, 1.0, v),
+        2 => VectorAnswer::at(-u, -v, 1.0),
+        3 => VectorAnswer::at(-1.0, -v, -u),
+        4 => VectorAnswer::at(v, -1.0, -u),
+        5 => VectorAnswer::at(v, u, -1.0),
+        _ => VectorAnswer::refused(BAD_FACE),
     }
 }
 
 // A vector in a face's u, v and w.
-pub fn face_xyz_to_uvw(face: u8, r: Vector) -> Vector
-    ensures { λ p. ⌜ p ≡ uvwOf face r ⌝ }
+pub fn face_xyz_to_uvw(face: u8, r: Vector) -> VectorAnswer
+    ensures { λ a. ⌜ a ≡ onFace face (uvwOf face r) ⌝ }
 {
     let x = r.x;
     let y = r.y;
     let z = r.z;
     match face {
-        0 => Vector::new(y, z, x),
-        1 => Vector::new(-x, z, y),
-        2 => Vector::new(-x, -y, z),
-        3 => Vector::new(-z, -y, -x),
-        4 => Vector::new(-z, x, -y),
-        5 => Vector::new(y, x, -z),
-        _ => Vector::ZERO,
+        0 => VectorAnswer::at(y, z, x),
+        1 => VectorAnswer::at(-x, z, y),
+        2 => VectorAnswer::at(-x, -y, z),
+        3 => VectorAnswer::at(-z, -y, -x),
+        4 => VectorAnswer::at(-z, x, -y),
+        5 => VectorAnswer::at(y, x, -z),
+        _ => VectorAnswer::refused(BAD_FACE),
     }
 }
 
@@ -132,9 +124,9 @@ fn uvw_axis(face: u8, axis: u8) -> Vector
     ensures { λ a. ⌜ a ≡ axisOf face axis ⌝ }
 {
     match axis {
-        0 => u_axis(face),
-        1 => v_axis(face),
-        _ => face_uv_to_xyz(face, 0.0, 0.0),
+        0 => u_axis(face).vector,
+        1 => v_axis(face).vector,
+        _ => face_uv_to_xyz(face, 0.0, 0.0).vector,
     }
 }
 
@@ -162,61 +154,61 @@ fn facing(r: Vector) -> u8
 }
 
 // The unit vector along a face's u.
-pub fn u_axis(face: u8) -> Vector
-    ensures { λ a. ⌜ a ≡ uAxis face ⌝ }
+pub fn u_axis(face: u8) -> VectorAnswer
+    ensures { λ a. ⌜ a ≡ onFace face (uAxis face) ⌝ }
 {
     match face {
-        0 => Vector::new(0.0, 1.0, 0.0),
-        1 => Vector::new(-1.0, 0.0, 0.0),
-        2 => Vector::new(-1.0, 0.0, 0.0),
-        3 => Vector::new(0.0, 0.0, -1.0),
-        4 => Vector::new(0.0, 0.0, -1.0),
-        5 => Vector::new(0.0, 1.0, 0.0),
-        _ => Vector::ZERO,
+        0 => VectorAnswer::at(0.0, 1.0, 0.0),
+        1 => VectorAnswer::at(-1.0, 0.0, 0.0),
+        2 => VectorAnswer::at(-1.0, 0.0, 0.0),
+        3 => VectorAnswer::at(0.0, 0.0, -1.0),
+        4 => VectorAnswer::at(0.0, 0.0, -1.0),
+        5 => VectorAnswer::at(0.0, 1.0, 0.0),
+        _ => VectorAnswer::refused(BAD_FACE),
     }
 }
 
 // The unit vector along a face's v.
-pub fn v_axis(face: u8) -> Vector
-    ensures { λ a. ⌜ a ≡ vAxis face ⌝ }
+pub fn v_axis(face: u8) -> VectorAnswer
+    ensures { λ a. ⌜ a ≡ onFace face (vAxis face) ⌝ }
 {
     match face {
-        0 => Vector::new(0.0, 0.0, 1.0),
-        1 => Vector::new(0.0, 0.0, 1.0),
-        2 => Vector::new(0.0, -1.0, 0.0),
-        3 => Vector::new(0.0, -1.0, 0.0),
-        4 => Vector::new(1.0, 0.0, 0.0),
-        5 => Vector::new(1.0, 0.0, 0.0),
-        _ => Vector::ZERO,
+        0 => VectorAnswer::at(0.0, 0.0, 1.0),
+        1 => VectorAnswer::at(0.0, 0.0, 1.0),
+        2 => VectorAnswer::at(0.0, -1.0, 0.0),
+        3 => VectorAnswer::at(0.0, -1.0, 0.0),
+        4 => VectorAnswer::at(1.0, 0.0, 0.0),
+        5 => VectorAnswer::at(1.0, 0.0, 0.0),
+        _ => VectorAnswer::refused(BAD_FACE),
     }
 }
 
 // A normal of the plane through the cube's centre and the line of a face at this u.
-pub fn unorm(face: u8, u: f64) -> Vector
-    ensures { λ n. ⌜ n ≡ uNorm face u ⌝ }
+pub fn unorm(face: u8, u: f64) -> VectorAnswer
+    ensures { λ a. ⌜ a ≡ onFace face (uNorm face u) ⌝ }
 {
     match face {
-        0 => Vector::new(u, -1.0, 0.0),
-        1 => Vector::new(1.0, u, 0.0),
-        2 => Vector::new(1.0, 0.0, u),
-        3 => Vector::new(-u, 0.0, 1.0),
-        4 => Vector::new(0.0, -u, 1.0),
-        5 => Vector::new(0.0, -1.0, -u),
-        _ => Vector::ZERO,
+        0 => VectorAnswer::at(u, -1.0, 0.0),
+        1 => VectorAnswer::at(1.0, u, 0.0),
+        2 => VectorAnswer::at(1.0, 0.0, u),
+        3 => VectorAnswer::at(-u, 0.0, 1.0),
+        4 => VectorAnswer::at(0.0, -u, 1.0),
+        5 => VectorAnswer::at(0.0, -1.0, -u),
+        _ => VectorAnswer::refused(BAD_FACE),
     }
 }
 
 // The same of the line at this v.
-pub fn vnorm(face: u8, v: f64) -> Vector
-    ensures { λ n. ⌜ n ≡ vNorm face v ⌝ }
+pub fn vnorm(face: u8, v: f64) -> VectorAnswer
+    ensures { λ a. ⌜ a ≡ onFace face (vNorm face v) ⌝ }
 {
     match face {
-        0 => Vector::new(-v, 0.0, 1.0),
-        1 => Vector::new(0.0, -v, 1.0),
-        2 => Vector::new(0.0, -1.0, -v),
-        3 => Vector::new(v, -1.0, 0.0),
-        4 => Vector::new(1.0, v, 0.0),
-        5 => Vector::new(1.0, 0.0, v),
-        _ => Vector::ZERO,
+        0 => VectorAnswer::at(-v, 0.0, 1.0),
+        1 => VectorAnswer::at(0.0, -v, 1.0),
+        2 => VectorAnswer::at(0.0, -1.0, -v),
+        3 => VectorAnswer::at(v, -1.0, 0.0),
+        4 => VectorAnswer::at(1.0, v, 0.0),
+        5 => VectorAnswer::at(1.0, 0.0, v),
+        _ => VectorAnswer::refused(BAD_FACE),
     }
 }

@@ -2,7 +2,7 @@
 //
 // A face is a number up to 5: 0, 1, 2 lie where x, y, z are positive, and 3, 4, 5 opposite. The
 // functions here are the entries: each answers the number of what is refused, in document 01's order
-// (4, 2, 5, then 1), and beside it what `compute` gives, which takes any float and refuses nothing.
+// (4, 2, 5, then 1), and beside it what `compute` gives, which takes any float and refuses 4 alone.
 // Beside a number that is not 0 stand zeros.
 pub mod compute;
 pub mod refuse;
@@ -10,8 +10,11 @@ pub mod vector;
 
 ghost use mathlib.Core.Path.{_≡_};
 ghost use Rattle.cube.specs.Answers.{faceAnswer, faceUvAnswer, uvAnswer, vectorAnswer};
+ghost use Rattle.cube.specs.Inner.{uvAt, uvRefused, vectorAt, vectorRefused};
 ghost use Rattle.cube.specs.Entries.{faceOrRefusal, faceUvOrRefusal, uvOrRefusal, xyzOrRefusal, uvwOrRefusal, neighbourOrRefusal, uAxisOrRefusal, vAxisOrRefusal, uNormOrRefusal, vNormOrRefusal};
 use answer::DONE;
+use answer::MISSED;
+use answer::NOT_FINITE;
 use compute::Uv;
 pub use vector::Vector;
 
@@ -59,11 +62,8 @@ pub fn xyz_to_face_uv(r: Vector) -> FaceUv
     ensures { λ a. ⌜ a ≡ faceUvOrRefusal r ⌝ }
 {
     let face = compute::face(r);
-    FaceUv::answer(
-        refuse::vector(r),
-        face,
-        compute::valid_face_xyz_to_uv(face, r),
-    )
+    let p = compute::valid_face_xyz_to_uv(face, r);
+    FaceUv::answer(refuse::vector(r), face, Uv { u: p.u, v: p.v })
 }
 
 // (u, v) of r on a face. 4 for a face above 5, 2 where r is not finite, 1 where r is not on the
@@ -71,9 +71,11 @@ pub fn xyz_to_face_uv(r: Vector) -> FaceUv
 pub fn face_xyz_to_uv(face: u8, r: Vector) -> UvAnswer
     ensures { λ a. ⌜ a ≡ uvOrRefusal face r ⌝ }
 {
+    let p = compute::valid_face_xyz_to_uv(face, r);
+    let number = refuse::also(p.number, r.is_finite(), NOT_FINITE);
     UvAnswer::answer(
-        refuse::side(face, r),
-        compute::valid_face_xyz_to_uv(face, r),
+        refuse::also(number, 0.0 < compute::along(face, r), MISSED),
+        Uv { u: p.u, v: p.v },
     )
 }
 
@@ -81,9 +83,10 @@ pub fn face_xyz_to_uv(face: u8, r: Vector) -> UvAnswer
 pub fn face_uv_to_xyz(face: u8, u: f64, v: f64) -> VectorAnswer
     ensures { λ a. ⌜ a ≡ xyzOrRefusal face u v ⌝ }
 {
+    let p = compute::face_uv_to_xyz(face, u, v);
     VectorAnswer::answer(
-        refuse::face(face, refuse::both_finite(u, v)),
-        compute::face_uv_to_xyz(face, u, v),
+        refuse::also(p.number, refuse::both_finite(u, v), NOT_FINITE),
+        p.vector,
     )
 }
 
@@ -91,10 +94,8 @@ pub fn face_uv_to_xyz(face: u8, u: f64, v: f64) -> VectorAnswer
 pub fn face_xyz_to_uvw(face: u8, r: Vector) -> VectorAnswer
     ensures { λ a. ⌜ a ≡ uvwOrRefusal face r ⌝ }
 {
-    VectorAnswer::answer(
-        refuse::face(face, r.is_finite()),
-        compute::face_xyz_to_uvw(face, r),
-    )
+    let p = compute::face_xyz_to_uvw(face, r);
+    VectorAnswer::answer(refuse::also(p.number, r.is_finite(), NOT_FINITE), p.vector)
 }
 
 // The neighbour of a face over an axis, 0 for u, 1 for v, 2 for w, in a direction, 0 for minus, 1
@@ -113,14 +114,16 @@ pub fn uvw_face(face: u8, axis: u8, direction: u8) -> FaceAnswer
 pub fn u_axis(face: u8) -> VectorAnswer
     ensures { λ a. ⌜ a ≡ uAxisOrRefusal face ⌝ }
 {
-    VectorAnswer::answer(refuse::face(face, true), compute::u_axis(face))
+    let a = compute::u_axis(face);
+    VectorAnswer::answer(a.number, a.vector)
 }
 
 // The unit vector along the v of a face. 4 for a face above 5.
 pub fn v_axis(face: u8) -> VectorAnswer
     ensures { λ a. ⌜ a ≡ vAxisOrRefusal face ⌝ }
 {
-    VectorAnswer::answer(refuse::face(face, true), compute::v_axis(face))
+    let a = compute::v_axis(face);
+    VectorAnswer::answer(a.number, a.vector)
 }
 
 // A normal of the plane through the cube's centre and the line of a face at this u. 4 for a face
@@ -128,9 +131,10 @@ pub fn v_axis(face: u8) -> VectorAnswer
 pub fn unorm(face: u8, u: f64) -> VectorAnswer
     ensures { λ a. ⌜ a ≡ uNormOrRefusal face u ⌝ }
 {
+    let p = compute::unorm(face, u);
     VectorAnswer::answer(
-        refuse::face(face, float::is_finite(u)),
-        compute::unorm(face, u),
+        refuse::also(p.number, float::is_finite(u), NOT_FINITE),
+        p.vector,
     )
 }
 
@@ -138,9 +142,10 @@ pub fn unorm(face: u8, u: f64) -> VectorAnswer
 pub fn vnorm(face: u8, v: f64) -> VectorAnswer
     ensures { λ a. ⌜ a ≡ vNormOrRefusal face v ⌝ }
 {
+    let p = compute::vnorm(face, v);
     VectorAnswer::answer(
-        refuse::face(face, float::is_finite(v)),
-        compute::vnorm(face, v),
+        refuse::also(p.number, float::is_finite(v), NOT_FINITE),
+        p.vector,
     )
 }
 
@@ -179,6 +184,23 @@ impl FaceUv {
 }
 
 impl UvAnswer {
+    // (u, v) of a face.
+    pub fn at(u: f64, v: f64) -> Self
+        ensures { λ a. ⌜ a ≡ uvAt u v ⌝ }
+    {
+        UvAnswer { number: DONE, u, v }
+    }
+
+    pub fn refused(number: u8) -> Self
+        ensures { λ a. ⌜ a ≡ uvRefused number ⌝ }
+    {
+        UvAnswer {
+            number,
+            u: 0.0,
+            v: 0.0,
+        }
+    }
+
     pub fn answer(number: u8, p: Uv) -> Self
         ensures { λ a. ⌜ a ≡ uvAnswer number p ⌝ }
     {
@@ -198,6 +220,25 @@ impl UvAnswer {
 }
 
 impl VectorAnswer {
+    // A vector of a face.
+    pub fn at(x: f64, y: f64, z: f64) -> Self
+        ensures { λ a. ⌜ a ≡ vectorAt x y z ⌝ }
+    {
+        VectorAnswer {
+            number: DONE,
+            vector: Vector { x, y, z },
+        }
+    }
+
+    pub fn refused(number: u8) -> Self
+        ensures { λ a. ⌜ a ≡ vectorRefused number ⌝ }
+    {
+        VectorAnswer {
+            number,
+            vector: Vector::ZERO,
+        }
+    }
+
     pub fn answer(number: u8, vector: Vector) -> Self
         ensures { λ a. ⌜ a ≡ vectorAnswer number vector ⌝ }
     {

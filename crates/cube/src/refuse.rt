@@ -3,12 +3,12 @@
 ghost use mathlib.Core.Path.{_≡_};
 ghost use Rattle.float.specs.Choice.{_and_};
 ghost use Rattle.float.specs.Float.{finite};
-ghost use Rattle.cube.specs.Refuse.{cubeRefusal, vectorRefusal, faceRefusal, sideNumber, sideRefusal, neighbourRefusal};
-use crate::compute::along;
+ghost use Rattle.answer.specs.Answer.{done};
+ghost use Rattle.cube.specs.Inner.{alsoRefused};
+ghost use Rattle.cube.specs.Refuse.{cubeRefusal, vectorRefusal, neighbourRefusal};
 use crate::vector::Vector;
 use answer::BAD_FACE;
 use answer::DONE;
-use answer::MISSED;
 use answer::NOT_FINITE;
 use answer::ZERO;
 use answer::both;
@@ -17,21 +17,7 @@ use answer::both;
 pub fn vector(r: Vector) -> u8
     ensures { λ n. ⌜ n ≡ vectorRefusal r ⌝ }
 {
-    in_order(true, r.is_finite(), !r.is_zero(), DONE)
-}
-
-// Of a face, and floats that are all finite or not.
-pub fn face(face: u8, floats: bool) -> u8
-    ensures { λ n. ⌜ n ≡ faceRefusal face floats ⌝ }
-{
-    in_order(face <= 5, floats, true, DONE)
-}
-
-// Of a face, and a vector that is to lie on its side.
-pub fn side(face: u8, r: Vector) -> u8
-    ensures { λ n. ⌜ n ≡ sideRefusal face r ⌝ }
-{
-    in_order(face <= 5, r.is_finite(), true, side_number(along(face, r)))
+    in_order(true, r.is_finite(), !r.is_zero())
 }
 
 // Of a face, an axis and a direction.
@@ -39,7 +25,7 @@ pub fn neighbour(face: u8, axis: u8, direction: u8) -> u8
     ensures { λ n. ⌜ n ≡ neighbourRefusal face axis direction ⌝ }
 {
     let exists = both(face <= 5, both(axis <= 2, direction <= 1));
-    in_order(exists, true, true, DONE)
+    in_order(exists, true, true)
 }
 
 // Whether u and v are finite.
@@ -49,11 +35,24 @@ pub fn both_finite(u: f64, v: f64) -> bool
     both(float::is_finite(u), float::is_finite(v))
 }
 
-// ---- the order, and what it asks
+// ---- the order
 
-// 4, 2, 5, then the rest.
-pub fn in_order(faces: bool, floats: bool, some: bool, rest: u8) -> u8
-    ensures { λ n. ⌜ n ≡ cubeRefusal faces floats some rest ⌝ }
+// The number that was found before, or this one where nothing was and something is not fine.
+pub fn also(before: u8, fine: bool, number: u8) -> u8
+    ensures { λ n. ⌜ n ≡ alsoRefused before fine number ⌝ }
+{
+    if before != DONE {
+        return before;
+    }
+    if fine {
+        return DONE;
+    }
+    number
+}
+
+// 4, 2, then 5.
+pub fn in_order(faces: bool, floats: bool, some: bool) -> u8
+    ensures { λ n. ⌜ n ≡ cubeRefusal faces floats some done ⌝ }
 {
     if !faces {
         return BAD_FACE;
@@ -64,15 +63,5 @@ pub fn in_order(faces: bool, floats: bool, some: bool, rest: u8) -> u8
     if !some {
         return ZERO;
     }
-    rest
-}
-
-// 1 unless the vector reaches to the side of the asked face.
-fn side_number(reach: f64) -> u8
-    ensures { λ n. ⌜ n ≡ sideNumber reach ⌝ }
-{
-    if 0.0 < reach {
-        return DONE;
-    }
-    MISSED
+    DONE
 }

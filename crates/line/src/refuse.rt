@@ -4,7 +4,6 @@ ghost use mathlib.Core.Path.{_≡_};
 ghost use Rattle.line.specs.Refuse.{lineRefusal, exitRefusal, nextRefusal};
 use crate::compute::Axis;
 use crate::compute::divisor;
-use answer::DONE;
 use answer::both;
 use cube::Vector;
 use cube::compute::Uv;
@@ -15,14 +14,14 @@ use cube::refuse::in_order;
 pub fn line(n: Vector) -> u8
     ensures { λ r. ⌜ r ≡ lineRefusal n ⌝ }
 {
-    in_order(true, n.is_finite(), true, DONE)
+    in_order(true, n.is_finite(), true)
 }
 
 // Of a normal and an axis.
 pub fn exit(n: Vector, axis: Axis) -> u8
     ensures { λ r. ⌜ r ≡ exitRefusal n axis ⌝ }
 {
-    in_order(true, n.is_finite(), !(divisor(axis, n) == 0.0), DONE)
+    in_order(true, n.is_finite(), !(divisor(axis, n) == 0.0))
 }
 
 // Of two faces, an exit point and a normal.
@@ -33,6 +32,5 @@ pub fn next(face: u8, exit: Uv, n: Vector, target: u8) -> u8
         both(face <= 5, target <= 5),
         both(both_finite(exit.u, exit.v), n.is_finite()),
         !n.is_zero(),
-        DONE,
     )
 }

@@ -34,6 +34,7 @@ pub fn step(face: u8, n: Vector, target: u8) -> Crossing
 pub fn moved(face: u8, at: Uv, next: u8) -> Uv
     ensures { λ r. ⌜ r ≡ movedTo face at next ⌝ }
 {
-    let p = cube::compute::face_xyz_to_uvw(next, cube::compute::face_uv_to_xyz(face, at.u, at.v));
-    Uv { u: p.x, v: p.y }
+    let p = cube::compute::face_uv_to_xyz(face, at.u, at.v).vector;
+    let q = cube::compute::face_xyz_to_uvw(next, p).vector;
+    Uv { u: q.x, v: q.y }
 }

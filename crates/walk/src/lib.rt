@@ -75,7 +75,7 @@ fn put_segments(out: &mut [u8], face: u8, a: Uv, target: u8, b: Uv, normal: Vect
                 count: 9 - left,
             };
         }
-        let n = cube::compute::face_xyz_to_uvw(at, normal);
+        let n = cube::compute::face_xyz_to_uvw(at, normal).vector;
         if !line::compute::intersects_face(n) {
             return WalkAnswer {
                 number: OFF_FACE,

@@ -1,7 +1,6 @@
 // What is refused of the input, in document 01's order for the cube and the walk: 4, 2, 5.
 ghost use mathlib.Core.Path.{_≡_};
 ghost use Rattle.walk.specs.Refuse.{inputRefusal};
-use answer::DONE;
 use answer::both;
 use cube::Vector;
 use cube::compute::Uv;
@@ -17,6 +16,5 @@ pub fn input(face: u8, a: Uv, target: u8, b: Uv, normal: Vector) -> u8
         both(face <= 5, target <= 5),
         both(ends, normal.is_finite()),
         !normal.is_zero(),
-        DONE,
     )
 }

@@ -3,9 +3,6 @@ use borrow.Author.Needs.{needs}
 use Rattle.cube.proofs.u_axis.Statement.{statement}
 use Rattle.cube.proofs.u_axis.Tie as tie
 
-face-requires : tie.Need-face-requires
-face-requires c κs = search needs
-
 u-axis-requires : tie.Need-u-axis-requires
 u-axis-requires c κs = search needs
 
@@ -13,7 +10,7 @@ answer-requires : tie.Need-answer-requires
 answer-requires c κs = search needs
 
 returns : tie.Need-returns
-returns c = rw (c .before .u-axis .ensures, c .before .before .face .ensures) at (c .answer .ensures)
+returns c = rw (c .before .u-axis .ensures) at (c .answer .ensures)
 
 pub u-axis-spec : {M : Type 1} → statement M
-u-axis-spec = tie.close (tie.spec face-requires u-axis-requires answer-requires returns)
+u-axis-spec = tie.close (tie.spec u-axis-requires answer-requires returns)

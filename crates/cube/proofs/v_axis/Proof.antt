@@ -3,9 +3,6 @@ use borrow.Author.Needs.{needs}
 use Rattle.cube.proofs.v_axis.Statement.{statement}
 use Rattle.cube.proofs.v_axis.Tie as tie
 
-face-requires : tie.Need-face-requires
-face-requires c κs = search needs
-
 v-axis-requires : tie.Need-v-axis-requires
 v-axis-requires c κs = search needs
 
@@ -13,7 +10,7 @@ answer-requires : tie.Need-answer-requires
 answer-requires c κs = search needs
 
 returns : tie.Need-returns
-returns c = rw (c .before .v-axis .ensures, c .before .before .face .ensures) at (c .answer .ensures)
+returns c = rw (c .before .v-axis .ensures) at (c .answer .ensures)
 
 pub v-axis-spec : {M : Type 1} → statement M
-v-axis-spec = tie.close (tie.spec face-requires v-axis-requires answer-requires returns)
+v-axis-spec = tie.close (tie.spec v-axis-requires answer-requires returns)

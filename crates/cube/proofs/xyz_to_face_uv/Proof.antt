@@ -16,9 +16,9 @@ answer-requires : tie.Need-answer-requires
 answer-requires c κs = search needs
 
 returns : tie.Need-returns
-returns c = rw (c .before .valid-face-xyz-to-uv .ensures, c .before .before .vector .ensures, c .before .before .before .face .ensures) at (c .answer .ensures)
+returns c = rw (c .before .vector .ensures, c .before .before .valid-face-xyz-to-uv .ensures, c .before .before .before .face .ensures) at (c .answer .ensures)
 
 pub xyz-to-face-uv-spec : {M : Type 1} → statement M
 xyz-to-face-uv-spec =
     tie.close
-    (tie.spec face-requires vector-requires valid-face-xyz-to-uv-requires answer-requires returns)
+    (tie.spec face-requires valid-face-xyz-to-uv-requires vector-requires answer-requires returns)

@@ -7,6 +7,7 @@ use borrow.Author.Needs.{needs}
 use borrow.Author.Tests.{not-true, not-false}
 use Rattle.buffer.specs.Bytes.{stored}
 use Rattle.buffer.proofs.Stored.{placed-length}
+use Rattle.cube.proofs.OnFace.{vector-of}
 use Rattle.walk.specs.Inner.{Numbers}
 use Rattle.walk.specs.Walk.{stopNumber, segments, countOf, recordsOf}
 use Rattle.walk.proofs.Stops.{answer-done, answer-other, at-target, at-miss, at-limit, goes-on}
@@ -57,24 +58,26 @@ intersects-face-requires : tie.Need-intersects-face-requires Inv-loop μ-loop
 intersects-face-requires c κs = search needs
 
 same-length-2 : tie.Need-same-length-2 Inv-loop μ-loop
-same-length-2 c = c .before .before .before .before .loop .inv .2
+same-length-2 c = c .before .before .before .before .before .loop .inv .2
 
 returns-2 : tie.Need-returns-2 Inv-loop μ-loop
 returns-2 c =
-    let i = c .before .before .before in
+    let f = c .before .before .before in
+    let i = f .before in
     let l = i .before .loop in
-    let m = tested _ (l .at) _ (c .before .before .face-xyz-to-uvw .ensures) _ _ (c .before .intersects-face .ensures) (not-true _ (c .if2 .taken)) in
+    let m = tested _ (l .at) _ (vector-of _ _ _ (f .face-xyz-to-uvw .ensures)) _ _ (c .before .intersects-face .ensures) (not-true _ (c .if2 .taken)) in
     let e = sym (at-miss _ (l .at) _ (l .left) (l .inv .0) (i .if1 .left) m) ∙ l .inv .3 in
     (answer-other _ _ _ e (λ h. omega arith), λ z. absurd (omega arith))
 
 same-length-3 : tie.Need-same-length-3 Inv-loop μ-loop
-same-length-3 c = c .before .before .before .before .before .loop .inv .2
+same-length-3 c = c .before .before .before .before .before .before .loop .inv .2
 
 returns-3 : tie.Need-returns-3 Inv-loop μ-loop
 returns-3 c =
-    let i = c .before .before .before .before in
+    let f = c .before .before .before .before in
+    let i = f .before in
     let l = i .before .loop in
-    let m = tested _ (l .at) _ (c .before .before .before .face-xyz-to-uvw .ensures) _ _ (c .before .before .intersects-face .ensures) (not-false _ (c .before .if2 .left)) in
+    let m = tested _ (l .at) _ (vector-of _ _ _ (f .face-xyz-to-uvw .ensures)) _ _ (c .before .before .intersects-face .ensures) (not-false _ (c .before .if2 .left)) in
     let e = sym (at-limit _ (l .at) _ (l .left) (c .if3 .taken) (i .if1 .left) m) ∙ l .inv .3 in
     (answer-other _ _ _ e (λ h. omega arith), λ z. absurd (omega arith))
 
@@ -85,11 +88,12 @@ put-segment-requires-2 : tie.Need-put-segment-requires-2 Inv-loop μ-loop
 put-segment-requires-2 c κs =
     let s = c .before in
     let o = s .before in
-    let f = o .before .before .before in
+    let f = o .before .before .before .before in
     let l = f .before .before .loop in
     let g = f .before .before .before .before .pre in
-    let m = tested _ (l .at) _ (f .face-xyz-to-uvw .ensures) _ _ (o .before .before .intersects-face .ensures) (not-false _ (o .before .if2 .left)) in
-    (l .inv .8, exit-numbers _ (g .finite) (g .some) (l .at) (l .inv .7) m _ (exit-is _ (l .at) _ (f .face-xyz-to-uvw .ensures) _ _ (s .step .ensures)))
+    let u = vector-of _ _ _ (f .face-xyz-to-uvw .ensures) in
+    let m = tested _ (l .at) _ u _ _ (o .before .before .intersects-face .ensures) (not-false _ (o .before .if2 .left)) in
+    (l .inv .8, exit-numbers _ (g .finite) (g .some) (l .at) (l .inv .7) m _ (exit-is _ (l .at) _ u _ _ (s .step .ensures)))
 
 moved-requires : tie.Need-moved-requires Inv-loop μ-loop
 moved-requires c κs = search needs
@@ -108,11 +112,11 @@ loop-again c =
     let w = c .before .before .before in
     let s = w .before .before in
     let o = s .before in
-    let f = o .before .before .before in
+    let f = o .before .before .before .before in
     let i = f .before in
     let l = i .before .loop in
     let q = i .before .before .before .pre in
-    let u = f .face-xyz-to-uvw .ensures in
+    let u = vector-of _ _ _ (f .face-xyz-to-uvw .ensures) in
     let n = i .if1 .left in
     let e = exit-is _ (l .at) _ u _ _ (s .step .ensures) in
     let g = next-is _ (l .at) _ u _ _ (s .step .ensures) in

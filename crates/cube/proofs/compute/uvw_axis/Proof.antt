@@ -2,6 +2,7 @@
 use Rattle.float.proofs.Choice.{when-eq, when-ne}
 use Rattle.float.specs.Choice.{when_then_else_}
 use Rattle.cube.specs.ByAxes.{axisOf}
+use Rattle.cube.proofs.OnFace.{vector-of}
 use borrow.Author.Needs.{needs}
 use Rattle.cube.proofs.compute.uvw_axis.Statement.{statement}
 use Rattle.cube.proofs.compute.uvw_axis.Tie as tie
@@ -17,15 +18,15 @@ face-uv-to-xyz-requires c κs = search needs
 
 returns : tie.Need-returns
 unfolding axisOf
-returns c = when-eq _ _ _ _ _ (c .before .match .keys1) (c .u-axis .ensures)
+returns c = when-eq _ _ _ _ _ (c .before .before .match .keys1) (vector-of _ _ _ (c .before .u-axis .ensures))
 
 returns-2 : tie.Need-returns-2
 unfolding axisOf when_then_else_
-returns-2 c = rw (c .before .match .keys2) (c .v-axis .ensures)
+returns-2 c = rw (c .before .before .match .keys2) (vector-of _ _ _ (c .before .v-axis .ensures))
 
 returns-3 : tie.Need-returns-3
 unfolding axisOf
-returns-3 c = when-ne _ _ _ _ _ (c .before .match .rest .0 .1) (when-ne _ _ _ _ _ (c .before .match .rest .1) (c .face-uv-to-xyz .ensures))
+returns-3 c = when-ne _ _ _ _ _ (c .before .before .match .rest .0 .1) (when-ne _ _ _ _ _ (c .before .before .match .rest .1) (vector-of _ _ _ (c .before .face-uv-to-xyz .ensures)))
 
 pub uvw-axis-spec : {M : Type 1} → statement M
 uvw-axis-spec =

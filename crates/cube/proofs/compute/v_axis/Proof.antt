@@ -1,66 +1,72 @@
--- `v_axis` is `vAxis`: an arm for each face, and the rest.
-use Rattle.cube.proofs.Six.{none-is}
+-- `v_axis` is `vAxis`: an arm for each face, and for the rest the refusal.
+use Rattle.float.specs.Choice.{when_then_else_}
 use Rattle.cube.specs.Faces.{byFace, vAxis}
+use Rattle.cube.specs.Refuse.{cubeRefusal}
 use borrow.Author.Needs.{needs}
+use Rattle.cube.proofs.OnFace.{vector-refused}
 use Rattle.cube.proofs.compute.v_axis.Statement.{statement}
 use Rattle.cube.proofs.compute.v_axis.Tie as tie
 
-new-requires : tie.Need-new-requires
-new-requires c κs = search needs
+at-requires : tie.Need-at-requires
+at-requires c κs = search needs
 
-new-requires-2 : tie.Need-new-requires-2
-new-requires-2 c κs = search needs
+at-requires-2 : tie.Need-at-requires-2
+at-requires-2 c κs = search needs
 
-new-requires-3 : tie.Need-new-requires-3
-new-requires-3 c κs = search needs
+at-requires-3 : tie.Need-at-requires-3
+at-requires-3 c κs = search needs
 
-new-requires-4 : tie.Need-new-requires-4
-new-requires-4 c κs = search needs
+at-requires-4 : tie.Need-at-requires-4
+at-requires-4 c κs = search needs
 
-new-requires-5 : tie.Need-new-requires-5
-new-requires-5 c κs = search needs
+at-requires-5 : tie.Need-at-requires-5
+at-requires-5 c κs = search needs
 
-new-requires-6 : tie.Need-new-requires-6
-new-requires-6 c κs = search needs
+at-requires-6 : tie.Need-at-requires-6
+at-requires-6 c κs = search needs
+
+refused-requires : tie.Need-refused-requires
+refused-requires c κs = search needs
 
 returns : tie.Need-returns
-unfolding byFace vAxis
-returns c = rw (c .before .match .keys1) (c .new .ensures)
+unfolding byFace vAxis cubeRefusal when_then_else_
+returns c = rw (c .before .match .keys1) (c .at .ensures)
 
 returns-2 : tie.Need-returns-2
-unfolding byFace vAxis
-returns-2 c = rw (c .before .match .keys2) (c .new2 .ensures)
+unfolding byFace vAxis cubeRefusal when_then_else_
+returns-2 c = rw (c .before .match .keys2) (c .at2 .ensures)
 
 returns-3 : tie.Need-returns-3
-unfolding byFace vAxis
-returns-3 c = rw (c .before .match .keys3) (c .new3 .ensures)
+unfolding byFace vAxis cubeRefusal when_then_else_
+returns-3 c = rw (c .before .match .keys3) (c .at3 .ensures)
 
 returns-4 : tie.Need-returns-4
-unfolding byFace vAxis
-returns-4 c = rw (c .before .match .keys4) (c .new4 .ensures)
+unfolding byFace vAxis cubeRefusal when_then_else_
+returns-4 c = rw (c .before .match .keys4) (c .at4 .ensures)
 
 returns-5 : tie.Need-returns-5
-unfolding byFace vAxis
-returns-5 c = rw (c .before .match .keys5) (c .new5 .ensures)
+unfolding byFace vAxis cubeRefusal when_then_else_
+returns-5 c = rw (c .before .match .keys5) (c .at5 .ensures)
 
 returns-6 : tie.Need-returns-6
-unfolding byFace vAxis
-returns-6 c = rw (c .before .match .keys6) (c .new6 .ensures)
+unfolding byFace vAxis cubeRefusal when_then_else_
+returns-6 c = rw (c .before .match .keys6) (c .at6 .ensures)
 
 returns-7 : tie.Need-returns-7
 unfolding byFace vAxis
-returns-7 c = none-is _ _ _ _ _ _ _ _ (c .match .rest)
+returns-7 c = vector-refused _ _ _ _ _ _ _ _ (c .refused .ensures) (c .before .match .rest)
 
 pub v-axis-spec : {M : Type 1} → statement M
 v-axis-spec =
     tie.close
     (tie.spec
-    new-requires
-    new-requires-2
-    new-requires-3
-    new-requires-4
-    new-requires-5
-    new-requires-6
+    at-requires
+    at-requires-2
+    at-requires-3
+    at-requires-4
+    at-requires-5
+    at-requires-6
+    refused-requires
     returns
     returns-2
     returns-3

@@ -1,4 +1,4 @@
--- `in_order` is `cubeRefusal`: 4, 2, 5, then the rest.
+-- `in_order` is `cubeRefusal`: 4, 2, then 5.
 use Rattle.float.proofs.Choice.{then-is, else-is}
 use mathlib.Core.Path.{refl}
 use borrow.Author.Tests.{not-true, not-false}

@@ -10,7 +10,7 @@ face-xyz-to-uvw-requires : tie.Need-face-xyz-to-uvw-requires
 face-xyz-to-uvw-requires c κs = search needs
 
 returns : tie.Need-returns
-returns c = cc
+returns c = rw (c .before .face-xyz-to-uvw .ensures, c .before .before .before .face-uv-to-xyz .ensures)
 
 pub moved-spec : {M : Type 1} → statement M
 moved-spec = tie.close (tie.spec face-uv-to-xyz-requires face-xyz-to-uvw-requires returns)
