@@ -25,10 +25,10 @@ enum { CLOCK_MONOTONIC = 1 };
 
 typedef umb_cut cut_function(umb_point a, umb_point b, umb_rect window);
 typedef umb_yes_no meets_function(umb_vector n);
-typedef umb_walk_answer walk_function(uint8_t face, umb_uv a, uint8_t target, umb_uv b, umb_vector normal, uint8_t *out,
-                                      size_t out_length);
-typedef umb_trace_answer trace_function(const double *samples, size_t samples_length, umb_rect window, uint8_t *out,
-                                        size_t out_length);
+typedef umb_walk_answer walk_function(uint8_t face, umb_uv a, uint8_t target, umb_uv b, umb_vector normal,
+                                      uint32_t whose, uint8_t *out, size_t out_length);
+typedef umb_trace_answer trace_function(const double *samples, size_t samples_length, umb_rect window, uint32_t whose,
+                                        uint8_t *out, size_t out_length);
 
 /* Weak, so that what cannot be built may be left out. */
 #define OPTIONAL __attribute__((weak))
@@ -37,23 +37,25 @@ extern meets_function nothing_intersects_face, crate_intersects_face OPTIONAL;
 extern walk_function nothing_walk, crate_walk OPTIONAL;
 extern trace_function crate_cut_trace OPTIONAL;
 
-/* The record of an edge: its number, seven zero bytes, then the floats of its answer. */
-static void put_record(uint8_t *record, umb_cut cut) {
-    uint64_t head = cut.number;
-    __builtin_memcpy(record, &head, 8);
+/* The record of an edge: its number, three zero bytes, whose it is, then the floats of its answer. The first two are
+ * stored apart, which takes four instructions less than one word of both. */
+static void put_record(uint8_t *record, umb_cut cut, uint32_t whose) {
+    uint32_t first = cut.number;
+    __builtin_memcpy(record, &first, 4);
+    __builtin_memcpy(record + 4, &whose, 4);
     __builtin_memcpy(record + 8, &cut.a, 16);
     __builtin_memcpy(record + 24, &cut.b, 16);
 }
 
 /* A whole trace with a call for each edge, as it is done where there is no function for it. It refuses no trace: the
  * crate's function refuses each edge by itself, the window with it. */
-static umb_trace_answer crate_edge_by_edge(const double *samples, size_t samples_length, umb_rect window, uint8_t *out,
-                                           size_t out_length) {
+static umb_trace_answer crate_edge_by_edge(const double *samples, size_t samples_length, umb_rect window,
+                                           uint32_t whose, uint8_t *out, size_t out_length) {
     umb_trace_answer counted = {0};
     for (size_t i = 0; i + 3 < samples_length && out_length >= RECORD_BYTES; i += 2) {
         const double *ends = samples + i;
         umb_cut cut = crate_clip_edge((umb_point){ends[0], ends[1]}, (umb_point){ends[2], ends[3]}, window);
-        put_record(out, cut);
+        put_record(out, cut, whose);
         counted.kept += cut.number == UMB_DONE;
         counted.missed += cut.number == UMB_MISSED;
         counted.edges++;
@@ -119,6 +121,7 @@ static const struct input {
 enum { INPUTS = sizeof inputs / sizeof inputs[0], LINE = 4 };
 
 static size_t input, count;
+static uint32_t trace_number;
 static edge *edges;
 static umb_cut *cuts;
 static umb_vector *lines;
@@ -165,6 +168,8 @@ static void make_inputs(void) {
     else if (input == LINE) normals(lines, count);
     else if (is_walk()) make_walks();
     else inputs[input].make(edges, count);
+    /* Not 0, and no one's to know before the call. */
+    trace_number = (uint32_t)next_number() | 1;
 }
 
 /* ---- the loops */
@@ -180,12 +185,12 @@ static void test_all(meets_function *meets) {
 static void walk_all(walk_function *walk) {
     for (size_t i = 0; i < count; i++) {
         const walk_input *w = &walked[i];
-        ends[i] = walk(w->face, w->a, w->target, w->b, w->normal, records + i * WALK_BYTES, w->room);
+        ends[i] = walk(w->face, w->a, w->target, w->b, w->normal, trace_number, records + i * WALK_BYTES, w->room);
     }
 }
 
 static void cut_trace(trace_function *trace) {
-    counts = trace(samples, 2 * (count + 1), WINDOW, records, count * RECORD_BYTES);
+    counts = trace(samples, 2 * (count + 1), WINDOW, trace_number, records, count * RECORD_BYTES);
 }
 
 static bool has(const struct contestant *c) {

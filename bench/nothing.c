@@ -11,8 +11,8 @@ umb_yes_no nothing_intersects_face(umb_vector n) {
     return (umb_yes_no){UMB_DONE, false};
 }
 
-umb_walk_answer nothing_walk(uint8_t face, umb_uv a, uint8_t target, umb_uv b, umb_vector normal, uint8_t *out,
-                             size_t out_length) {
-    (void)face, (void)a, (void)target, (void)b, (void)normal, (void)out, (void)out_length;
+umb_walk_answer nothing_walk(uint8_t face, umb_uv a, uint8_t target, umb_uv b, umb_vector normal, uint32_t whose,
+                             uint8_t *out, size_t out_length) {
+    (void)face, (void)a, (void)target, (void)b, (void)normal, (void)whose, (void)out, (void)out_length;
     return (umb_walk_answer){UMB_DONE, 0};
 }

@@ -27,6 +27,7 @@ pub unsafe extern "C" fn crate_cut_trace(
     samples: *const CPoint,
     samples_length: usize,
     window: CRect,
+    whose: u32,
     out: *mut [u8; RECORD],
     out_length: usize,
 ) -> CTraceAnswer {
@@ -41,17 +42,17 @@ pub unsafe extern "C" fn crate_cut_trace(
     if out_length / RECORD < edges {
         return no_trace(BUFFER_TOO_SHORT);
     }
-    cut_edges(from_raw_parts(samples, samples_count), window.into(), from_raw_parts_mut(out, edges))
+    cut_edges(from_raw_parts(samples, samples_count), window.into(), whose, from_raw_parts_mut(out, edges))
 }
 
 /// Runs of live samples are found ahead, so that no edge of one is tested.
-fn cut_edges(samples: &[CPoint], window: Rect, out: &mut [[u8; RECORD]]) -> CTraceAnswer {
+fn cut_edges(samples: &[CPoint], window: Rect, whose: u32, out: &mut [[u8; RECORD]]) -> CTraceAnswer {
     let (edges, mut kept, mut refused, mut at) = (out.len(), 0, 0, 0);
     while at < edges {
         // What is in its bounds is known to the compiler by this.
         let samples = &samples[..=edges];
         if !(samples[at].admitted() & samples[at + 1].admitted()) {
-            out[at] = no_points(NOT_FINITE);
+            out[at] = no_points(NOT_FINITE, whose);
             refused += 1;
             at += 1;
             continue;
@@ -59,10 +60,10 @@ fn cut_edges(samples: &[CPoint], window: Rect, out: &mut [[u8; RECORD]]) -> CTra
         let end = live_until(samples, at + 2);
         for (ends, place) in samples[at..end].windows(2).zip(&mut out[at..]) {
             if let (a, b, true) = clip_edge(ends[0].into(), ends[1].into(), window.clone()) {
-                *place = record(DONE, a, b);
+                *place = record(DONE, whose, a, b);
                 kept += 1;
             } else {
-                *place = no_points(MISSED);
+                *place = no_points(MISSED, whose);
             }
         }
         at = end - 1;
@@ -90,6 +91,6 @@ fn live_until(samples: &[CPoint], from: usize) -> usize {
     at
 }
 
-fn no_points(number: Number) -> [u8; RECORD] {
-    record(number, Point { x: 0.0, y: 0.0 }, Point { x: 0.0, y: 0.0 })
+fn no_points(number: Number, whose: u32) -> [u8; RECORD] {
+    record(number, whose, Point { x: 0.0, y: 0.0 }, Point { x: 0.0, y: 0.0 })
 }

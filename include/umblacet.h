@@ -3,8 +3,8 @@
  * Every function answers every input: NaN, infinities, empty windows, faces above 5 and short buffers get a number,
  * and nothing traps. An answer is a struct whose first member is that number. Beside any number but UMB_DONE all its
  * other members are zeros (no, face 0, axis U). Nothing is kept between calls, so every function may be called from any
- * thread. Only umb_walk and umb_cut_trace are lent memory, and say what they leave there; all other arguments are taken
- * by value, and no other function writes anywhere but its answer.
+ * thread. Only umb_walk and umb_cut_trace are lent memory, and what they leave there is said at "a record"; all other
+ * arguments are taken by value, and no other function writes anywhere but its answer.
  *
  * All floats are IEEE 754 binary64, round to nearest, ties to even, which is how a C program starts: a caller that has
  * set another rounding, or flushes subnormals to zero, sets that back before a call. A bool holds 0 or 1. Where finite
@@ -220,19 +220,29 @@ umb_interval_answer umb_update_endpoint(umb_interval bound, bool high_endpoint, 
  * from 0 to 500. Beyond a and b it may be infinite; it is no NaN. 2 or 0. */
 umb_real umb_interpolate(double x, double a, double b, double a1, double b1);
 
+/* ---- a record: 40 bytes, written by umb_cut_trace for each edge and by umb_walk for each segment
+ *
+ *     byte 0           the number of the edge's answer, 0, 1 or 2; of a segment, its face
+ *     bytes 1 to 3     zeros
+ *     bytes 4 to 7     the trace number, whose, as the caller gave it: any number, little-endian
+ *     bytes 8 to 39    a.x, a.y, b.x, b.y of the kept points, zeros unless kept; of a segment a.u, a.v, b.u, b.v:
+ *                      each float's bits, little-endian
+ *
+ * The records of a call stand from out on, one after the other, and it writes no other byte: beside 0 those after the
+ * last record stay as they were, and beside any other number all of out does. What stood in out changes no record. So
+ * calls into neighbouring parts of one buffer may be made in either order, and give the same bytes. */
+
 /* ---- a whole trace in one call */
 
-/* Every edge of a trace, from each sample to the next, cut to the window as umb_clip_edge cuts it: a record of 40 bytes
- * for each, from out on, and how many of them were kept, missed and refused, and how many there are. A record is the
- * number of the edge's answer, 0, 1 or 2, seven zero bytes, and a.x, a.y, b.x, b.y of the kept points as little-endian
- * bits, zeros unless it is kept. A dead sample is 2 in the records of the edges that touch it, and nowhere else; no
- * sample or one has no edge. So a trace cut at a sample, which is sent in both parts, gives the same records. An edge
- * between live samples is kept where one of them lies in the window, with that one as it was. Of these numbers: 10, 3,
- * 8, 0. Beside 0 the bytes after the last record stay as they were; beside any other number all of out does. samples
- * has samples_length floats, x and y in turn, and out has out_length bytes; either length may be 0, neither pointer is
- * null, and the two do not overlap. The samples are only read. */
-umb_trace_answer umb_cut_trace(const double *samples, size_t samples_length, umb_rect window, uint8_t *out,
-                               size_t out_length);
+/* Every edge of a trace, from each sample to the next, cut to the window as umb_clip_edge cuts it: a record for each,
+ * and how many of them were kept, missed and refused, and how many there are. A dead sample is 2 in the records of the
+ * edges that touch it, and nowhere else; no sample or one has no edge. So a trace cut at a sample, which is sent in
+ * both parts, gives the same records under the same number. An edge between live samples is kept where one of them lies
+ * in the window, with that one as it was. Of these numbers: 10, 3, 8, 0. samples has samples_length floats, x and y in
+ * turn, and out has out_length bytes; either length may be 0, neither pointer is null, and the two do not overlap. The
+ * samples are only read. */
+umb_trace_answer umb_cut_trace(const double *samples, size_t samples_length, umb_rect window, uint32_t whose,
+                               uint8_t *out, size_t out_length);
 
 /* ---- the six faces of the cube */
 
@@ -273,12 +283,11 @@ umb_uv_answer umb_exit_point(umb_vector n, uint8_t axis);
 umb_face_answer umb_next_face(uint8_t face, umb_uv exit, uint8_t axis, umb_vector n, uint8_t target);
 
 /* The segments of the line with this normal (in x, y, z) from the point a of a face to the point b of the target: a
- * record of 40 bytes for each, from out on, and their count, 1 to 6 where the line meets the first face. A record is
- * the face, seven zero bytes, and a.u, a.v, b.u, b.v as little-endian bits. Of these numbers: 4 for face or target, 2,
- * 5, 6 or 7 as the walk finds them, 8, 0. Beside 0 the bytes after the last record stay as they were; beside any other
- * number all of out does. out is not null and has out_length bytes, which may be 0; 240 always hold a walk. */
-umb_walk_answer umb_walk(uint8_t face, umb_uv a, uint8_t target, umb_uv b, umb_vector normal, uint8_t *out,
-                         size_t out_length);
+ * record for each, and their count, 1 to 6 where the line meets the first face. Of these numbers: 4 for face or target,
+ * 2, 5, 6 or 7 as the walk finds them, 8, 0. out is not null and has out_length bytes, which may be 0; 240 always hold
+ * a walk. */
+umb_walk_answer umb_walk(uint8_t face, umb_uv a, uint8_t target, umb_uv b, umb_vector normal, uint32_t whose,
+                         uint8_t *out, size_t out_length);
 
 #ifdef __cplusplus
 }

@@ -25,7 +25,7 @@ pub fn run(whose: Whose) -> io::Result<()> {
     answer_records(|record: &[u8; 8 * REQUEST], output| answer(&words(record), whose, output))
 }
 
-/// The words after the arguments are ignored, so they may be zeros.
+/// The words after the arguments are ignored, so they may be zeros. A trace number that is not named is 0.
 pub fn request(operation: u64, arguments: &[u64]) -> [u64; REQUEST] {
     let mut request = [0; REQUEST];
     request[0] = operation;
@@ -113,13 +113,17 @@ fn results(operation: u64, whose: Whose, a: &mut Arguments) -> Answer<Vec<u64>> 
 
 fn write_walk(a: &mut Arguments, output: &mut impl Write) -> io::Result<()> {
     let (face, start, target, end, normal) = (a.take(), a.take(), a.take(), a.take(), a.take());
-    write_lent(output, a.take(), |buffer| Ok([walk::walk(face, start, target, end, normal, buffer)?]))
+    let (length, trace_number) = (a.take(), a.take());
+    write_lent(output, length, |buffer| Ok([walk::walk(face, start, target, end, normal, trace_number, buffer)?]))
 }
 
+/// There is room for all floats, read or not, and the trace number stands after it.
 fn write_trace(whose: Whose, a: &mut Arguments, output: &mut impl Write) -> io::Result<()> {
     let (count, length, window): (u64, u64, Rect) = (a.take(), a.take(), a.take());
-    let samples: Vec<f64> = (0..count.min(FLOATS as u64)).map(|_| a.take()).collect();
-    write_lent(output, length, |buffer| trace::cut_trace(whose, &samples, &window, buffer))
+    let floats: [f64; FLOATS] = std::array::from_fn(|_| a.take());
+    let samples = &floats[..count.min(FLOATS as u64) as usize];
+    let trace_number = a.take();
+    write_lent(output, length, |buffer| trace::cut_trace(whose, samples, &window, trace_number, buffer))
 }
 
 /// The line of a call that is lent a buffer shows its counts and the whole buffer, whatever the number: what was

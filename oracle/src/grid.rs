@@ -9,8 +9,9 @@ use std::io::{self, BufWriter, Write};
 /// lengths; x floats of all sorts, not finite ones among them; t small floats of both signs; g 0 to 3; h 0 to 2; e the
 /// ends 0 and 2; c -1 to 1; m the middle of a face; l floats up to module 4's limit and beyond it, w that limit and the
 /// float above it, W their opposites. For a trace: C counts of floats, S six of them; R lengths about whole records, T
-/// about two, E exactly two; d floats of live and dead samples; a digit that float.
-const GRID: [(u64, &str); 58] = [
+/// about two, E exactly two; d floats of live and dead samples; a digit that float, 0 also face 0. N trace numbers, in
+/// short grids of their own; in the others the number is 0.
+const GRID: [(u64, &str); 60] = [
     (1, "xxxx"),
     (2, "xxxx"),
     (3, "xxx"),
@@ -65,10 +66,12 @@ const GRID: [(u64, &str); 58] = [
     (54, "xxxb"),
     (55, "FccbtttF"),
     (60, "FmmFmmtttL"),
+    (60, "0mmFmme0eLN"),
     (61, "CRhhhh0031132202133120"),
     (61, "ST0022dddddd"),
     (61, "SEhhhhhhhhhh"),
     (61, "SEWWwwwwwwww"),
+    (61, "CRe0120031132202133120N"),
 ];
 
 /// Operations up to this one are also asked with all arguments zero, listed or not.
@@ -120,6 +123,7 @@ fn list(letter: char) -> Vec<u64> {
         'R' => vec![0, 39, 40, 41, 79, 80, 81, 279, 280, 281, 400, 401],
         'T' => vec![79, 80, 81],
         'E' => vec![80],
+        'N' => vec![0, 1, 0x0403_0201, 1 << 32, (1 << 32) + 1],
         'd' => floats(&[1.0, 3.0, f64::NAN, f64::NEG_INFINITY, LIMIT.next_up()]),
         '0'..='9' => floats(&[f64::from(letter as u8 - b'0')]),
         _ => unreachable!("no list is called {letter}"),

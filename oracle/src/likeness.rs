@@ -143,6 +143,10 @@ mod tests {
     use crate::whose::Whose;
 
     const RECORDS: &str = "0000000000000000 000000000000f03f 0000000000000080 000000000000f87f 0000000000000040";
+    /// The bytes before the floats, and such with another byte that is zero or of the trace number.
+    const HEAD: &str = "0000000000000000";
+    const HEADS: [&str; 5] =
+        ["0000008000000000", "0000000001000000", "0000000000000001", "0000000000000080", "0000000004030201"];
     const ZERO: &str = "0 0000000000000000\n";
     const MINUS_ZERO: &str = "0 8000000000000000\n";
 
@@ -203,7 +207,9 @@ mod tests {
         assert!(likeness(&walk(&RECORDS.replace("f87f", "f8ff"), "a5a5")) == Same);
         assert!(likeness(&walk(&RECORDS.replace("f03f", "f0bf"), "a5a5")) == Different);
         assert!(likeness(&walk(&RECORDS.replacen('0', "8", 1), "a5a5")) == Different);
-        assert!(likeness(&walk(&RECORDS.replacen("00 ", "80 ", 1), "a5a5")) == Different, "a byte before floats");
+        for other in HEADS {
+            assert!(likeness(&walk(&RECORDS.replacen(HEAD, other, 1), "a5a5")) == Different, "{other}");
+        }
         assert!(likeness(&walk(RECORDS, "a5a4")) == Different);
         assert!(likeness(&walk(RECORDS, "a5")) == Different);
         assert!(likeness(&line.replace("0001 ", "0002 ")) == Different);
@@ -221,7 +227,11 @@ mod tests {
         let spaced = |from: &str, to: &str| RECORDS.replacen(from, to, 1).replace(' ', "");
         assert!(likeness(&trace(&spaced("80 ", "00 "), &refused, "a5")) == SameButForAZero);
         assert!(likeness(&trace(&spaced("f03f", "f0bf"), &refused, "a5")) == Different);
-        assert!(likeness(&trace(&spaced("00 ", "80 "), &refused, "a5")) == Different, "a byte before floats");
+        for other in HEADS {
+            assert!(likeness(&trace(&spaced(HEAD, other), &refused, "a5")) == Different, "{other}");
+            let other = format!("02{}{}", &other[2..], &refused[16..]);
+            assert!(likeness(&trace(&kept, &other, "a5")) == Different, "{other}");
+        }
         let minus_zero = format!("{}80", &refused[..78]);
         assert!(likeness(&trace(&kept, &minus_zero, "a5")) == Different, "no zero of the crate's");
         assert!(likeness(&trace(&kept, &refused.replacen('2', "1", 1), "a5")) == Different);

@@ -6,7 +6,7 @@
 use crate::answers::{line_of, request, FLOATS, REQUEST};
 use crate::clip::{admitted, LIMIT};
 use crate::floats::power;
-use crate::operations::{is_limited, kinds, OPERATIONS};
+use crate::operations::{is_limited, kinds, words_for, OPERATIONS};
 use crate::random::Random;
 use crate::records;
 use crate::requests::request_of;
@@ -35,17 +35,13 @@ type Seen = BTreeMap<(usize, &'static str, bool), u64>;
 fn floats_of(request: &[u64; REQUEST]) -> Vec<(usize, f64)> {
     let (mut floats, mut place) = (Vec::new(), 1);
     for kind in kinds(request[0]).0.chars() {
-        let (words, are_floats) = match kind {
-            'f' => (1, true),
-            'p' | 'i' => (2, true),
-            'r' => (4, true),
-            'S' => (request[1].min(FLOATS as u64) as usize, true),
-            _ => (1, false),
+        let read = match kind {
+            'f' | 'p' | 'i' | 'r' => words_for(kind),
+            'S' => request[1].min(FLOATS as u64) as usize,
+            _ => 0,
         };
-        if are_floats {
-            floats.extend((place..place + words).map(|place| (place, f64::from_bits(request[place]))));
-        }
-        place += words;
+        floats.extend((place..place + read).map(|place| (place, f64::from_bits(request[place]))));
+        place += words_for(kind);
     }
     floats
 }

@@ -38,6 +38,8 @@ mod samples;
 mod shapes;
 mod stream;
 mod trace;
+#[cfg(test)]
+mod trace_numbers;
 mod traces;
 mod walk;
 mod whole;
@@ -59,10 +61,13 @@ oracle cut < RECORDS            a line for each 64-byte record, as document 01's
 oracle crate-cut < RECORDS      the same from the crate alone, nothing refused: a dead sample is drawn
 oracle records KIND N SEED      N seeded records; KIND is bits or edges
 oracle trace < SAMPLES          a 40-byte record for each edge of a trace: a window, then samples, all floats of 8 bytes
+oracle trace NUMBER < SAMPLES   the same with this trace number in every record; else it is 0
 oracle samples N SEED           a window and N seeded samples
 oracle answers < REQUESTS       a line for each 192-byte request, as the answering program writes it
 oracle list < REQUESTS          the same as our definitions have it: zeros that the crate leaves open, and the clamp
 oracle requests N SEED          N seeded requests, every operation among them
+oracle lent N SEED              N seeded requests of the operations that write records
+oracle unnumbered < REQUESTS    these requests with 0 for a trace number
 oracle past N SEED              searches N seeded requests for what the clamp changes; 1 when it is not as it has to be
 oracle past-requests N SEED     those requests
 oracle near N SEED              searches N seeded cuts for the value farthest from the line; 1 when that is too far
@@ -89,11 +94,14 @@ fn run(arguments: &[&str]) -> io::Result<bool> {
     match arguments {
         ["cut"] => cut::run(clip::clip_edge)?,
         ["crate-cut"] => cut::run(clip::clip_edge_unrefused)?,
-        ["trace"] => trace::run()?,
+        ["trace"] => trace::run(0)?,
+        ["trace", number] => trace::run(trace_number(number)?)?,
         ["samples", count, seed] => samples::run(whole(count)?, whole(seed)?)?,
         ["answers"] => answers::run(Whose::Crates)?,
         ["list"] => answers::run(Whose::Ours)?,
         ["requests", count, seed] => requests::run(requests::request, whole(count)?, whole(seed)?)?,
+        ["lent", count, seed] => requests::run(requests::lent, whole(count)?, whole(seed)?)?,
+        ["unnumbered"] => requests::run_unnumbered()?,
         ["past", count, seed] => return past::run(whole(count)?, whole(seed)?),
         ["past-requests", count, seed] => requests::run(past::request, whole(count)?, whole(seed)?)?,
         ["near", count, seed] => return near::run(whole(count)?, whole(seed)?),
@@ -113,4 +121,9 @@ fn run(arguments: &[&str]) -> io::Result<bool> {
 
 fn whole(argument: &str) -> io::Result<u64> {
     argument.parse().map_err(|_| io::Error::other(format!("{argument:?} is not a whole number")))
+}
+
+fn trace_number(argument: &str) -> io::Result<u32> {
+    let none = |_| io::Error::other(format!("{argument:?} is not a trace number, 0 to {}", u32::MAX));
+    argument.parse().map_err(none)
 }

@@ -1,8 +1,11 @@
 //! The operations of the answering program, the kinds of words that each takes and the kinds that it gives.
 
+use crate::answers::FLOATS;
+
 /// f a float, p a point, i an interval, r a rectangle or window, v a vector, n a normal, F a face, A an axis number,
 /// D a direction, b a word that is 0 or not (a yes/no, a corner's side, an axis), L a buffer's length, C a count of
-/// floats, S so many of them; W a walk: the count of its records and the buffer, T a trace: its counts and the buffer.
+/// floats, S so many of them in room for the most, N a trace number, always last; W a walk: the count of its records
+/// and the buffer, T a trace: its counts and the buffer.
 pub const OPERATIONS: [(u64, &str, &str); 49] = [
     (1, "pp", "p"),
     (2, "pp", "p"),
@@ -51,12 +54,15 @@ pub const OPERATIONS: [(u64, &str, &str); 49] = [
     (53, "n", "b"),
     (54, "nb", "p"),
     (55, "FpbnF", "F"),
-    (60, "FpFpnL", "W"),
-    (61, "CLrS", "T"),
+    (60, "FpFpnLN", "W"),
+    (61, "CLrSN", "T"),
 ];
 
 /// The operations whose answers are hardest to get right: they are asked more often.
 pub const HARD: [u64; 7] = [34, 50, 51, 52, 60, 60, 61];
+
+/// Those that write records into a buffer that they are lent, the trace number in each.
+pub const LENT: [u64; 2] = [60, 61];
 
 /// Module 4 and the trace, which admit no float beyond the limit.
 pub fn is_limited(operation: u64) -> bool {
@@ -67,4 +73,22 @@ pub fn is_limited(operation: u64) -> bool {
 pub fn kinds(operation: u64) -> (&'static str, &'static str) {
     let listed = OPERATIONS.iter().find(|(listed, _, _)| *listed == operation);
     listed.map_or(("", ""), |(_, arguments, results)| (arguments, results))
+}
+
+/// So many words of a request are for an argument of this kind.
+pub fn words_for(kind: char) -> usize {
+    match kind {
+        'f' | 'F' | 'A' | 'D' | 'b' | 'L' | 'C' | 'N' => 1,
+        'p' | 'i' => 2,
+        'v' | 'n' => 3,
+        'r' => 4,
+        'S' => FLOATS,
+        _ => unreachable!("no kind of word is called {kind}"),
+    }
+}
+
+/// Which word of a request is the trace number; none where the operation takes none.
+pub fn trace_number_place(operation: u64) -> Option<usize> {
+    let before = kinds(operation).0.strip_suffix('N')?;
+    Some(1 + before.chars().map(words_for).sum::<usize>())
 }

@@ -9,7 +9,7 @@ use std::collections::BTreeMap;
 
 const PAGE: &str = include_str!("../../docs/DIFFERENCES.md");
 const TESTS: [&str; 2] = [include_str!("differences.rs"), include_str!("differences/cube.rs")];
-const STORED_REQUESTS: &[u8] = include_bytes!("../../crates/answers/stdin");
+pub const STORED_REQUESTS: &[u8] = include_bytes!("../../crates/answers/stdin");
 const STORED_LINES: &str = include_str!("../../crates/answers/stdout");
 
 /// Bits have their most significant digit first and no leading zeros.

@@ -8,16 +8,21 @@
 //! of two, or a zero of either sign. Last, in one request of 16 a float is not finite, in one of 64 two are; of
 //! operations 30 to 35 and 61 as many are beyond module 4's limit, and in one request of eight a float is at it. Faces,
 //! axes and directions are too great in one of 16, a buffer has any length, and in one request of 64 the operation is
-//! any word. The words after the arguments are random: they have to be ignored.
+//! any word. A trace number is 0 in two of eight; as often as each other it is small, next to a power of 256 or the
+//! power, one byte that is not 0 among zeros, 4294967295, a word from 2^32 up, its low half 0, 1 or any, and any word.
+//! The words after the arguments are random: they have to be ignored.
+//!
+//! `oracle lent`: such requests of the operations that write records alone.
+//! `oracle unnumbered`: requests with 0 for a trace number, whatever it was.
 
 use crate::answers::REQUEST;
 use crate::floats::{at_limit, beyond_limit, neighbour, not_finite, zero, Family};
-use crate::operations::{is_limited, kinds, HARD, OPERATIONS};
+use crate::operations::{is_limited, kinds, trace_number_place, words_for, HARD, LENT, OPERATIONS};
 use crate::random::Random;
 use crate::shapes;
-use crate::stream::write_words;
+use crate::stream::{read_full, words, write_words};
 use crate::traces;
-use std::io::{self, BufWriter, Write};
+use std::io::{self, BufReader, BufWriter, Write};
 
 #[derive(Clone, Copy)]
 pub enum Word {
@@ -45,6 +50,31 @@ pub fn request(random: &mut Random) -> [u64; REQUEST] {
     request_of(random, operation)
 }
 
+pub fn lent(random: &mut Random) -> [u64; REQUEST] {
+    let operation = random.pick(&LENT);
+    request_of(random, operation)
+}
+
+pub fn run_unnumbered() -> io::Result<()> {
+    let mut input = BufReader::with_capacity(1 << 16, io::stdin().lock());
+    let mut output = BufWriter::with_capacity(1 << 16, io::stdout().lock());
+    let mut request = [0; 8 * REQUEST];
+    loop {
+        match read_full(&mut input, &mut request)? {
+            0 => return output.flush(),
+            length if length < request.len() => return Err(io::Error::other("the input ends inside a request")),
+            _ => write_words(&mut output, &unnumbered(words(&request)))?,
+        }
+    }
+}
+
+pub fn unnumbered(mut request: [u64; REQUEST]) -> [u64; REQUEST] {
+    if let Some(place) = trace_number_place(request[0]) {
+        request[place] = 0;
+    }
+    request
+}
+
 pub fn request_of(random: &mut Random, operation: u64) -> [u64; REQUEST] {
     let mut arguments = match operation {
         30..=35 if !random.once_in(4) => shapes::around_edge(random, operation),
@@ -66,7 +96,26 @@ pub fn filled(random: &mut Random, operation: u64, arguments: Vec<Word>) -> [u64
             Word::Plain(value) => value,
         };
     }
+    if let Some(place) = trace_number_place(operation) {
+        request[place] = trace_number(request[place]);
+    }
     request
+}
+
+/// Made of the word that was drawn for its place, with no draw more: it moves no other word of a seed's requests.
+fn trace_number(drawn: u64) -> u64 {
+    let mut random = Random::new(drawn);
+    let any = random.word();
+    let byte = random.between(0, 3);
+    match random.below(8) {
+        0 | 1 => 0,
+        2 => 1 + any % 16,
+        3 => (1 << (8 * byte.max(1))) - 1 + any % 3,
+        4 => (1 + any % 255) << (8 * byte),
+        5 => u32::MAX.into(),
+        6 => random.pick(&[1, any >> 32 | 1, u32::MAX.into()]) << 32 | random.pick(&[0, 1, any & u64::from(u32::MAX)]),
+        _ => any,
+    }
 }
 
 fn floats_of(words: &mut [Word]) -> Vec<&mut f64> {
@@ -94,7 +143,8 @@ fn plain_arguments(random: &mut Random, operation: u64) -> Vec<Word> {
     let shared = any(random);
     let mixed = random.once_in(8);
     let mut arguments = Vec::new();
-    for kind in kinds(operation).0.chars() {
+    // `filled` makes the trace number; nothing is drawn for it here.
+    for kind in kinds(operation).0.trim_end_matches('N').chars() {
         let family = if mixed { any(random) } else { shared };
         match kind {
             'F' => arguments.push(Word::Plain(limited(random, 5))),
@@ -110,15 +160,10 @@ fn plain_arguments(random: &mut Random, operation: u64) -> Vec<Word> {
 }
 
 fn floats(random: &mut Random, kind: char, family: Family) -> Vec<f64> {
-    let count = match kind {
-        'f' => 1,
-        'p' | 'i' => 2,
-        'n' => return shapes::normal(random, family).to_vec(),
-        'v' => 3,
-        'r' => 4,
-        _ => unreachable!("no kind of word is called {kind}"),
-    };
-    let mut floats: Vec<f64> = (0..count).map(|_| family.draw(random)).collect();
+    if kind == 'n' {
+        return shapes::normal(random, family).to_vec();
+    }
+    let mut floats: Vec<f64> = (0..words_for(kind)).map(|_| family.draw(random)).collect();
     // The sides of an interval are neighbours, those of a rectangle's axis two apart.
     let apart = match kind {
         'i' => 1,

@@ -77,17 +77,24 @@ fn look_at_records(mut asked: impl Read, mut one: impl Read, mut other: impl Rea
             (0, 0) if !whole => return Ok(found),
             (walk::RECORD, walk::RECORD) if whole => {
                 let alike = |a: &[u8]| compare_edges(a.try_into().expect("a record"), &b);
-                found.judge(alike, || our_record(&window, &before, &sample).to_vec(), &a, &b);
+                let again = || our_record(&window, &before, &sample, walk::trace_number_of(&a)).to_vec();
+                found.judge(alike, again, &a, &b);
             }
             _ => found.count(Different, &a[..a_length], &b[..b_length]),
         }
     }
 }
 
-fn our_record(window: &[u8; WINDOW_BYTES], a: &[u8; SAMPLE_BYTES], b: &[u8; SAMPLE_BYTES]) -> [u8; walk::RECORD] {
+/// The trace number is that of the crate's record, which the other has to have in any case.
+fn our_record(
+    window: &[u8; WINDOW_BYTES],
+    a: &[u8; SAMPLE_BYTES],
+    b: &[u8; SAMPLE_BYTES],
+    trace_number: u32,
+) -> [u8; walk::RECORD] {
     let window: Rect = Arguments::new(&words::<4>(window)).take();
     let [a, b] = [a, b].map(|sample| Arguments::new(&words::<2>(sample)).take::<Point>());
-    trace::cut(Whose::Ours, a, b, &window)
+    trace::cut(Whose::Ours, a, b, &window, trace_number)
 }
 
 struct Found {
@@ -228,7 +235,9 @@ mod tests {
             found_records(&records, &changed)
         };
         assert_eq!(changed(15, 0x80), (0, 1), "a zero of the other sign");
-        assert_eq!(changed(7, 0x80), (1, 0), "a byte before floats");
+        for place in (1..8).chain(41..48) {
+            assert_eq!(changed(place, 0x80), (1, 0), "byte {place}, before floats: a zero, or the trace number's");
+        }
         assert_eq!(changed(55, 0x80), (1, 0), "a float beside a refusal");
         assert_eq!(changed(40, 1), (1, 0), "another number");
         assert_eq!(found_records(&records, &records[..79]), (1, 0), "a torn record");
@@ -275,7 +284,7 @@ mod tests {
         let records = |whose| {
             let mut buffer = [0; 80];
             let window = Arguments::new(&window).take();
-            trace::cut_trace(whose, &floats(&words[4..]), &window, &mut buffer).expect("there is room");
+            trace::cut_trace(whose, &floats(&words[4..]), &window, 7, &mut buffer).expect("there is room");
             buffer
         };
         let (crates, mut ours) = (records(Whose::Crates), records(Whose::Ours));
@@ -286,6 +295,9 @@ mod tests {
         ours[8] ^= 1;
         assert_eq!((found(&ours).different, found(&ours).clamped), (1, 0), "another point");
         ours[8] ^= 1;
+        ours[4] = 8;
+        assert_eq!((found(&ours).different, found(&ours).clamped), (1, 0), "another trace number");
+        ours[4] = 7;
         ours[40] = 1;
         assert_eq!((found(&ours).different, found(&ours).clamped), (1, 1), "a whole edge missed");
     }

@@ -1,5 +1,5 @@
 //! Change request W1, a whole trace in one call: its refusals in order, then module 4's `clip_edge`, edge by edge.
-//! `oracle trace`: the records that the program of that name has to write for a window and samples.
+//! `oracle trace`: the records that the program of that name has to write for a trace number, a window and samples.
 
 use crate::clip::{admit_window, clip_edge};
 use crate::number::{Answer, BAD_TRACE, BAD_WINDOW, BUFFER_TOO_SHORT, DONE};
@@ -22,14 +22,15 @@ type Counts = [usize; 4];
 const EDGES: usize = 3;
 
 /// Gives back the counts. With a number instead, the buffer is as it was.
-pub fn cut_trace(whose: Whose, samples: &[f64], window: &Rect, buffer: &mut [u8]) -> Answer<Counts> {
+pub fn cut_trace(whose: Whose, samples: &[f64], window: &Rect, trace_number: u32, buffer: &mut [u8]) -> Answer<Counts> {
     let (samples, odd) = samples.as_chunks();
     if !odd.is_empty() || samples.len() > SAMPLES {
         return Err(BAD_TRACE);
     }
     admit_window(window)?;
     let samples: Vec<Point> = samples.iter().map(|[x, y]| Point { x: *x, y: *y }).collect();
-    let records: Vec<_> = samples.windows(2).map(|edge| cut(whose, edge[0], edge[1], window)).collect();
+    let edges = samples.windows(2);
+    let records: Vec<_> = edges.map(|edge| cut(whose, edge[0], edge[1], window, trace_number)).collect();
     if buffer.len() / RECORD < records.len() {
         return Err(BUFFER_TOO_SHORT);
     }
@@ -41,12 +42,12 @@ pub fn cut_trace(whose: Whose, samples: &[f64], window: &Rect, buffer: &mut [u8]
     Ok(counts)
 }
 
-/// The record of an edge: the number of its answer and, where it is kept, its points.
-pub fn cut(whose: Whose, a: Point, b: Point, window: &Rect) -> [u8; RECORD] {
+/// The record of an edge: the number of its answer, the trace number and, where it is kept, its points.
+pub fn cut(whose: Whose, a: Point, b: Point, window: &Rect, trace_number: u32) -> [u8; RECORD] {
     const ZERO: Point = Point { x: 0.0, y: 0.0 };
     match clip_edge(whose, a, b, window.clone()) {
-        Ok((kept_a, kept_b)) => record(DONE, kept_a, kept_b),
-        Err(number) => record(number, ZERO, ZERO),
+        Ok((kept_a, kept_b)) => record(DONE, trace_number, kept_a, kept_b),
+        Err(number) => record(number, trace_number, ZERO, ZERO),
     }
 }
 
@@ -57,7 +58,7 @@ fn count(counts: &mut Counts, record: &[u8; RECORD]) {
 
 /// Beside the records it says on standard error what the program has to say there: a bad window, a torn last sample,
 /// and the counts.
-pub fn run() -> io::Result<()> {
+pub fn run(trace_number: u32) -> io::Result<()> {
     let mut input = BufReader::with_capacity(1 << 16, io::stdin().lock());
     let mut window = [0; WINDOW_BYTES];
     if read_full(&mut input, &mut window)? < WINDOW_BYTES {
@@ -69,7 +70,7 @@ pub fn run() -> io::Result<()> {
         return Ok(());
     }
     let mut output = BufWriter::with_capacity(1 << 16, io::stdout().lock());
-    let ([kept, missed, refused, edges], torn) = write_records(&mut input, &window, &mut output)?;
+    let ([kept, missed, refused, edges], torn) = write_records(&mut input, &window, trace_number, &mut output)?;
     output.flush()?;
     if torn > 0 {
         eprintln!("trace: the last sample is torn, {torn} bytes of {SAMPLE_BYTES}");
@@ -79,7 +80,12 @@ pub fn run() -> io::Result<()> {
 }
 
 /// Writes the records of a trace of any length; gives back the counts, and the length of a torn end.
-fn write_records(input: &mut impl Read, window: &Rect, output: &mut impl Write) -> io::Result<(Counts, usize)> {
+fn write_records(
+    input: &mut impl Read,
+    window: &Rect,
+    trace_number: u32,
+    output: &mut impl Write,
+) -> io::Result<(Counts, usize)> {
     let (mut counts, mut before) = (Counts::default(), None);
     let mut bytes = [0; SAMPLE_BYTES];
     loop {
@@ -89,7 +95,7 @@ fn write_records(input: &mut impl Read, window: &Rect, output: &mut impl Write) 
         }
         let sample: Point = Arguments::new(&words::<2>(&bytes)).take();
         if let Some(before) = before.replace(sample) {
-            let record = cut(Whose::Crates, before, sample, window);
+            let record = cut(Whose::Crates, before, sample, window, trace_number);
             count(&mut counts, &record);
             output.write_all(&record)?;
         }
@@ -203,11 +209,11 @@ mod tests {
     fn the_program() {
         let mut input: Vec<u8> = TRACE.iter().flat_map(|float| float.to_le_bytes()).collect();
         let mut expected = [0; 5 * RECORD];
-        let counts = cut_trace(Whose::Crates, &TRACE, &window(), &mut expected).expect("there is room");
+        let counts = cut_trace(Whose::Crates, &TRACE, &window(), 7, &mut expected).expect("there is room");
         for torn in [0, 1, 15] {
             input.resize(8 * TRACE.len() + torn, 0);
             let mut records = Vec::new();
-            let said = write_records(&mut input.as_slice(), &window(), &mut records).expect("memory can be written");
+            let said = write_records(&mut input.as_slice(), &window(), 7, &mut records).expect("memory can be written");
             assert_eq!((said, records.as_slice()), ((counts, torn), expected.as_slice()));
         }
     }
@@ -216,7 +222,7 @@ mod tests {
     fn the_longest_trace() {
         let mut buffer = vec![0xa5; RECORD * SAMPLES];
         let mut number = |floats: usize, length: usize| {
-            let answer = cut_trace(Whose::Crates, &vec![1.0; floats], &window(), &mut buffer[..length]);
+            let answer = cut_trace(Whose::Crates, &vec![1.0; floats], &window(), 0, &mut buffer[..length]);
             answer.map_or_else(|number| number, |_| DONE)
         };
         let room = RECORD * (SAMPLES - 1);

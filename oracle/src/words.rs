@@ -30,6 +30,13 @@ impl Argument for u64 {
     }
 }
 
+/// A trace number: a larger word counts modulo 2^32.
+impl Argument for u32 {
+    fn take(arguments: &mut Arguments) -> u32 {
+        arguments.take::<u64>() as u32
+    }
+}
+
 impl Argument for f64 {
     fn take(arguments: &mut Arguments) -> f64 {
         f64::from_bits(arguments.take())

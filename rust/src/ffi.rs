@@ -135,6 +135,7 @@ pub(crate) fn umb_walk(
     target: u8,
     b: Point,
     normal: Vector,
+    whose: u32,
     out: &mut [u8],
 ) -> Result<usize, Refusal> {
     extern "C" {
@@ -144,26 +145,28 @@ pub(crate) fn umb_walk(
             target: u8,
             b: Point,
             normal: Vector,
+            whose: u32,
             out: *mut u8,
             out_length: usize,
         ) -> Numbered<usize>;
     }
     // SAFETY: it is declared as in the header, and is lent a slice's bytes: not null, as many as it is told, and no one
     // else's until it is back.
-    unsafe { umb_walk(face, a, target, b, normal, out.as_mut_ptr(), out.len()) }.result()
+    unsafe { umb_walk(face, a, target, b, normal, whose, out.as_mut_ptr(), out.len()) }.result()
 }
 
-pub(crate) fn umb_cut_trace(samples: &[f64], window: Rect, out: &mut [u8]) -> Result<Counts, Refusal> {
+pub(crate) fn umb_cut_trace(samples: &[f64], window: Rect, whose: u32, out: &mut [u8]) -> Result<Counts, Refusal> {
     extern "C" {
         fn umb_cut_trace(
             samples: *const f64,
             samples_length: usize,
             window: Rect,
+            whose: u32,
             out: *mut u8,
             out_length: usize,
         ) -> Numbered<Counts>;
     }
     // SAFETY: it is declared as in the header, and is lent two slices that do not overlap: not null, as long as it is
     // told; the samples are only read, and the bytes are no one else's until it is back.
-    unsafe { umb_cut_trace(samples.as_ptr(), samples.len(), window, out.as_mut_ptr(), out.len()) }.result()
+    unsafe { umb_cut_trace(samples.as_ptr(), samples.len(), window, whose, out.as_mut_ptr(), out.len()) }.result()
 }

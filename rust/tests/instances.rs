@@ -81,8 +81,8 @@ fn p13_walk() {
         ])
     );
     let mut room = [0; 120];
-    assert_eq!(walk(0, at(0.0, 0.0), 3, at(0.0, 0.0), LEVEL, &mut room), Ok(3));
-    assert_eq!(walk(0, at(0.0, 0.0), 3, at(0.0, 0.0), LEVEL, &mut room[1..]), Err(Refusal::ShortBuffer));
+    assert_eq!(walk(0, at(0.0, 0.0), 3, at(0.0, 0.0), LEVEL, 0, &mut room), Ok(3));
+    assert_eq!(walk(0, at(0.0, 0.0), 3, at(0.0, 0.0), LEVEL, 0, &mut room[1..]), Err(Refusal::ShortBuffer));
 }
 
 #[test]

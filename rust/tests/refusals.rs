@@ -11,11 +11,12 @@ use umblacet::Refusal;
 const ORIGIN: Point = Point { x: 0.0, y: 0.0 };
 const LEVEL: Vector = Vector::new(0.0, 0.0, 1.0);
 const UNTOUCHED: u8 = 0xa5;
+const WHOSE: u32 = 0x89ab_cdef;
 
 /// Walks from face to target, both at the origin, in a buffer of this length.
 fn walked(face: u8, target: u8, to: Point, normal: Vector, length: usize) -> (Result<usize, Refusal>, Vec<u8>) {
     let mut bytes = vec![UNTOUCHED; length];
-    (walk(face, ORIGIN, target, to, normal, &mut bytes), bytes)
+    (walk(face, ORIGIN, target, to, normal, WHOSE, &mut bytes), bytes)
 }
 
 #[test]
@@ -44,6 +45,9 @@ fn a_walk_leaves_the_bytes_after_its_records() {
     assert_eq!(answer, Ok(3));
     assert_eq!(bytes[120..], [UNTOUCHED; 10]);
     assert_eq!([bytes[0], bytes[40], bytes[80]], [0, 1, 3]);
+    for record in bytes[..120].chunks(40) {
+        assert_eq!(record[1..8], [0, 0, 0, 0xef, 0xcd, 0xab, 0x89], "three zeros, and whose it is");
+    }
 }
 
 #[test]

@@ -8,6 +8,7 @@ use umblacet::Refusal;
 
 const RECORD: usize = 40;
 const UNTOUCHED: u8 = 0xa5;
+const WHOSE: u32 = 0x89ab_cdef;
 const NAN: f64 = f64::NAN;
 
 /// The window of document 01's P1 and P2.
@@ -20,12 +21,12 @@ const TRACE: [f64; 12] = [0.0, 0.0, 4.0, 2.0, 4.0, NAN, 0.0, 2.0, 4.0, 0.0, 4.0,
 /// The answer, and the buffer of this length after it.
 fn cut(samples: &[f64], window: Rect, length: usize) -> (Result<Counts, Refusal>, Vec<u8>) {
     let mut bytes = vec![UNTOUCHED; length];
-    (cut_trace(samples, window, &mut bytes), bytes)
+    (cut_trace(samples, window, WHOSE, &mut bytes), bytes)
 }
 
 fn record(number: u8, floats: [f64; 4]) -> Vec<u8> {
     let floats = floats.iter().flat_map(|float| float.to_le_bytes());
-    [number, 0, 0, 0, 0, 0, 0, 0].into_iter().chain(floats).collect()
+    [number, 0, 0, 0].into_iter().chain(WHOSE.to_le_bytes()).chain(floats).collect()
 }
 
 #[test]
@@ -41,6 +42,20 @@ fn records_and_counts() {
         vec![UNTOUCHED; 3],
     ];
     assert_eq!(bytes, expected.concat());
+}
+
+/// No other byte hangs on the trace number, and 0 is four zeros.
+#[test]
+fn every_record_says_whose_it_is() {
+    let (_, mut expected) = cut(&TRACE, PLOT, 5 * RECORD);
+    for whose in [0, 1, 0x0102_0304, u32::MAX] {
+        let mut bytes = [UNTOUCHED; 5 * RECORD];
+        assert!(cut_trace(&TRACE, PLOT, whose, &mut bytes).is_ok());
+        for record in expected.chunks_mut(RECORD) {
+            record[4..8].copy_from_slice(&whose.to_le_bytes());
+        }
+        assert_eq!(bytes[..], expected, "{whose}");
+    }
 }
 
 #[test]

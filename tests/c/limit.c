@@ -2,11 +2,12 @@
 #include "limit.h"
 
 #include "calls.h"
+#include "record.h"
 #include "trace.h"
 
 #include <string.h>
 
-enum { TRACE = 61, RECORD = 40 };
+enum { TRACE = 61 };
 
 /* The words of an operation: c a coordinate, l a window's low side, h a high one; a digit is that number, r the bytes
  * of a record. */

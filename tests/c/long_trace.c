@@ -2,15 +2,17 @@
 #include "long_trace.h"
 
 #include "lent.h"
-#include "request.h"
+#include "record.h"
 
 #include <string.h>
 
-enum { LIMIT = 4096, RECORD = 40 };
+enum { LIMIT = 4096 };
 
 /* One sample more than a call takes. */
 static double samples[2 * (LIMIT + 1)];
 static const umb_rect window = {{0, 1}, {0, 1}}, turned = {{1, 0}, {0, 1}};
+/* A trace number of which no two bytes are the same. */
+static const uint32_t some_number = 0x89abcdef;
 
 /* ---- the samples */
 
@@ -56,38 +58,24 @@ static umb_point sample_at(size_t place)
 
 /* ---- what has to hold */
 
-static bool has_float(const uint8_t *bytes, double value)
-{
-    uint64_t bits;
-    memcpy(&bits, &value, sizeof bits);
-    return word_of(bytes) == bits;
-}
-
-/* The first eight bytes, read as a word, are the number and zeros. */
-static bool is_record_of(const uint8_t *record, const umb_cut *cut)
-{
-    return word_of(record) == cut->number && has_float(record + 8, cut->a.x) && has_float(record + 16, cut->a.y) &&
-           has_float(record + 24, cut->b.x) && has_float(record + 32, cut->b.y);
-}
-
 static bool same_counts(umb_trace_answer one, umb_trace_answer other)
 {
     const answer a = of_trace(one), b = of_trace(other);
     return same_answer(&a, &b);
 }
 
-/* A trace of so many samples, with so many bytes lent beyond its records. */
-static const char *wrong_with_trace(size_t count, size_t spare)
+/* A trace of so many samples under this trace number, with so many bytes lent beyond its records. */
+static const char *wrong_with_trace(size_t count, uint32_t whose, size_t spare)
 {
     const size_t length = RECORD * (count - 1) + spare;
     uint8_t *const out = lend(length);
-    const umb_trace_answer given = umb_cut_trace(samples, 2 * count, window, out, length);
+    const umb_trace_answer given = umb_cut_trace(samples, 2 * count, window, whose, out, length);
     umb_trace_answer counted = {.number = UMB_DONE};
 
     for (; counted.edges + 1 < count; counted.edges++) {
         const umb_cut cut = umb_clip_edge(sample_at(counted.edges), sample_at(counted.edges + 1), window);
-        if (!is_record_of(out + RECORD * counted.edges, &cut))
-            return "each record is the answer for its edge";
+        if (!is_record(out + RECORD * counted.edges, cut.number, whose, cut.a, cut.b))
+            return "each record is the answer for its edge, under the trace's number";
         counted.kept += cut.number == UMB_DONE;
         counted.missed += cut.number == UMB_MISSED;
         counted.refused += cut.number == UMB_NOT_FINITE;
@@ -104,7 +92,7 @@ static const char *wrong_with_trace(size_t count, size_t spare)
 static bool refused(uint8_t number, size_t floats, umb_rect asked, size_t length)
 {
     uint8_t *const out = lend(length);
-    const umb_trace_answer given = umb_cut_trace(samples, floats, asked, out, length);
+    const umb_trace_answer given = umb_cut_trace(samples, floats, asked, some_number, out, length);
     return same_counts(given, (umb_trace_answer){.number = number}) && untouched(out, length) &&
            guards_stand(out, length);
 }
@@ -130,11 +118,11 @@ const char *wrong_with_long_traces(void)
         samples[i] = coordinate(i);
     memcpy(before, samples, sizeof before);
 
-    const char *wrong = wrong_with_trace(LIMIT, 0);
+    const char *wrong = wrong_with_trace(LIMIT, 0, 0);
     if (wrong == NULL)
-        wrong = wrong_with_trace(LIMIT, 1);
+        wrong = wrong_with_trace(LIMIT, some_number, 1);
     if (wrong == NULL)
-        wrong = wrong_with_trace(LIMIT - 1, RECORD);
+        wrong = wrong_with_trace(LIMIT - 1, some_number, RECORD);
     if (wrong == NULL)
         wrong = wrong_with_refusals();
     if (wrong == NULL && memcmp(before, samples, sizeof before) != 0)

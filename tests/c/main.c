@@ -1,8 +1,10 @@
 /* Answers requests by the library: 192 bytes each on standard input, a line each on standard output. Beside the lines
  * it checks what no line shows, and ends with 1 where one of these fails: zeros stand beside any number but 0, the same
  * call gives the same answer, a walk and a trace leave alone what was not lent to them, the records of traces that are
- * longer than a request can hold are the answers for their edges, and no float is cut that is beyond 2^500. */
+ * longer than a request can hold are the answers for their edges, two engines' records in one buffer are the same
+ * bytes whichever are written first, and no float is cut that is beyond 2^500. */
 #include "calls.h"
+#include "engines.h"
 #include "limit.h"
 #include "line.h"
 #include "long_trace.h"
@@ -95,6 +97,7 @@ int main(void)
     if (length > 0)
         write_number(TORN_INPUT);
     must_be_null(wrong_with_long_traces(), "long traces");
+    must_be_null(wrong_with_two_engines(), "two engines");
     must_be_null(wrong_about_the_limit(), "the limit");
     return all_hold && !ferror(stdin) && fflush(stdout) == 0 ? 0 : 1;
 }

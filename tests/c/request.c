@@ -67,3 +67,8 @@ uint8_t number_at(const request *r, size_t place)
 {
     return r->words[place] <= UINT8_MAX ? (uint8_t)r->words[place] : UINT8_MAX;
 }
+
+uint32_t u32_at(const request *r, size_t place)
+{
+    return (uint32_t)r->words[place];
+}

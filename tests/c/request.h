@@ -23,6 +23,8 @@ umb_uv uv_at(const request *r, size_t place);
 bool yes_at(const request *r, size_t place);
 /* A face, axis or direction: 255 for a word above it. */
 uint8_t number_at(const request *r, size_t place);
+/* A trace number: the word modulo 2^32. */
+uint32_t u32_at(const request *r, size_t place);
 /* A length: the limit for a word above it. */
 size_t length_at(const request *r, size_t place, size_t limit);
 

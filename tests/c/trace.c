@@ -2,8 +2,8 @@
 
 #include <string.h>
 
-/* No request has more floats. */
-enum { FLOATS = 16 };
+/* No request has more floats. The trace number stands after the places of all of them, however many are asked. */
+enum { FLOATS = 16, WHOSE = 7 + FLOATS };
 
 size_t trace_length(const request *r)
 {
@@ -18,7 +18,7 @@ lent trace(const request *r, size_t length)
     lent t = {.length = length};
 
     memcpy(samples, r->words + 7, sizeof samples);
-    t.answer = of_trace(umb_cut_trace(samples, count, rect_at(r, 3), out, length));
+    t.answer = of_trace(umb_cut_trace(samples, count, rect_at(r, 3), u32_at(r, WHOSE), out, length));
     t.intact = guards_stand(out, length) && memcmp(samples, r->words + 7, sizeof samples) == 0;
     memcpy(t.bytes, out, length);
     return t;

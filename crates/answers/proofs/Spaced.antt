@@ -17,7 +17,7 @@ use Rattle.walk.specs.declared.compute.WalkAnswer.{WalkAnswer}
 use Rattle.trace.specs.Answers.{answerOf, bufferAfter}
 use Rattle.trace.specs.declared.TraceAnswer.{TraceAnswer}
 use Rattle.answers.specs.Number.{numberText, groupsFrom}
-use Rattle.answers.specs.Request.{wordUpTo, rectAt, uvAt, vectorAt, numberAt}
+use Rattle.answers.specs.Request.{wordUpTo, rectAt, uvAt, vectorAt, numberAt, whoseAt}
 use Rattle.answers.specs.Lent.{lent, twoDigits, bytesFrom, spacedBytes, shownLine}
 use Rattle.answers.specs.Walked.{walkedLine, walkLineOn, walkLine}
 use Rattle.answers.specs.Traced.{tracedLine, floatsOf, traceLineOn, traceLine}
@@ -99,19 +99,19 @@ pub traced-line : (a : TraceAnswer) (bs : List ℕ) → shownLine (a .number) (a
 unfolding tracedLine shownLine groupsFrom
 traced-line a bs = refl
 
-pub walk-line : (xs s bs : List ℕ) (w : WalkAnswer) (f t : ℕ) (a b : Uv) (p : Vector) → f ≡ numberAt s 1 → a ≡ uvAt s 2 → t ≡ numberAt s 4 → b ≡ uvAt s 5 → p ≡ vectorAt s 7
-    → w ≡ walkOrRefusal (length xs) f a t b p → bs ≡ Walk.bufferAfter xs f a t b p → walkedLine w bs ≡ walkLineOn xs s
+pub walk-line : (xs s bs : List ℕ) (w : WalkAnswer) (f t : ℕ) (a b : Uv) (p : Vector) (o : ℕ) → f ≡ numberAt s 1 → a ≡ uvAt s 2 → t ≡ numberAt s 4 → b ≡ uvAt s 5 → p ≡ vectorAt s 7 → o ≡ whoseAt s 11
+    → w ≡ walkOrRefusal (length xs) f a t b p → bs ≡ Walk.bufferAfter xs f a t b p o → walkedLine w bs ≡ walkLineOn xs s
 unfolding walkLineOn
-walk-line xs s bs w f t a b p ef ea et eb ep ew es = rw (ew, es, ef, ea, et, eb, ep)
+walk-line xs s bs w f t a b p o ef ea et eb ep eo ew es = rw (ew, es, ef, ea, et, eb, ep, eo)
 
 pub walk-whole : (s : List ℕ) (n : ℕ) → n ≡ wordUpTo s 10 400 → walkLineOn (lent n) s ≡ walkLine s
 unfolding walkLine
 walk-whole s n e = rw e
 
-pub trace-line : (xs s bs : List ℕ) (t : TraceAnswer) (n : ℕ) (fs : List Float) (w : Rect) → fs ≡ floatsOf s → n ≡ wordUpTo s 1 16 → w ≡ rectAt s 3
-    → t ≡ answerOf (take n fs) w (length xs) → bs ≡ bufferAfter xs (take n fs) w → tracedLine t bs ≡ traceLineOn xs s
+pub trace-line : (xs s bs : List ℕ) (t : TraceAnswer) (n : ℕ) (fs : List Float) (w : Rect) (o : ℕ) → fs ≡ floatsOf s → n ≡ wordUpTo s 1 16 → w ≡ rectAt s 3 → o ≡ whoseAt s 23
+    → t ≡ answerOf (take n fs) w (length xs) → bs ≡ bufferAfter xs (take n fs) w o → tracedLine t bs ≡ traceLineOn xs s
 unfolding traceLineOn
-trace-line xs s bs t n fs w ef en ew et eb = rw (et, eb, ef, en, ew)
+trace-line xs s bs t n fs w o ef en ew eo et eb = rw (et, eb, ef, en, ew, eo)
 
 pub trace-whole : (s : List ℕ) (n : ℕ) → n ≡ wordUpTo s 2 400 → traceLineOn (lent n) s ≡ traceLine s
 unfolding traceLine

@@ -1,5 +1,5 @@
 -- The arguments of a request, by the place of their first word: 0 is the operation, and each word is 8 bytes, little-endian.
-use Prim.Native.Nat.{ℕ, _+_, _*_}
+use Prim.Native.Nat.{ℕ, _+_, _*_, _%_, _^_}
 use mathlib.Core.Bool.{Bool, not}
 use mathlib.Core.List.{List}
 use lib.Dec.{eqb, leb}
@@ -51,6 +51,10 @@ wordUpTo s k most = when leb (wordOf s k) most then wordOf s k else most
 -- a face, axis or direction: 255, above every limit, for a word above it
 unfoldable pub numberAt : List ℕ → ℕ → ℕ
 numberAt s k = when leb (wordOf s k) 255 then wordOf s k else 255
+
+-- a trace number: the word modulo 2^32
+unfoldable pub whoseAt : List ℕ → ℕ → ℕ
+whoseAt s k = wordOf s k % 2 ^ 32
 
 abbrev pub yesAt : List ℕ → ℕ → Bool
 yesAt s k = not (eqb (wordOf s k) 0)

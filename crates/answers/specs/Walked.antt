@@ -4,7 +4,7 @@ use mathlib.Core.List.{List, [], _∷_}
 use lib.ListN.{length}
 use Rattle.walk.specs.Answers.{walkOrRefusal, bufferAfter}
 use Rattle.walk.specs.declared.compute.WalkAnswer.{WalkAnswer}
-use Rattle.answers.specs.Request.{wordUpTo, uvAt, vectorAt, numberAt}
+use Rattle.answers.specs.Request.{wordUpTo, uvAt, vectorAt, numberAt, whoseAt}
 use Rattle.answers.specs.Lent.{lent, shownLine}
 
 unfoldable pub walkedLine : WalkAnswer → List ℕ → List ℕ
@@ -18,7 +18,7 @@ walkLineOn xs s =
     let t = numberAt s 4 in
     let b = uvAt s 5 in
     let p = vectorAt s 7 in
-    walkedLine (walkOrRefusal (length xs) f a t b p) (bufferAfter xs f a t b p)
+    walkedLine (walkOrRefusal (length xs) f a t b p) (bufferAfter xs f a t b p (whoseAt s 11))
 
 unfoldable pub walkLine : List ℕ → List ℕ
 walkLine s = walkLineOn (lent (wordUpTo s 10 400)) s

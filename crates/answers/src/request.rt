@@ -1,7 +1,7 @@
 // The arguments of a request, by the place of their first word: 0 is the operation.
 ghost use mathlib.Core.Path.{_≡_};
 ghost use Prim.Native.Nat.{_+_, _≤_, _<_};
-ghost use Rattle.answers.specs.Request.{wordOf, wordUpTo, floatAt, pointAt, intervalAt, rectAt, uvAt, vectorAt, numberAt, yesAt, axisAt};
+ghost use Rattle.answers.specs.Request.{wordOf, wordUpTo, floatAt, pointAt, intervalAt, rectAt, uvAt, vectorAt, numberAt, whoseAt, yesAt, axisAt};
 use cube::Vector;
 use cube::compute::Uv;
 use line::Axis;
@@ -99,6 +99,14 @@ pub(crate) fn number_at(s: &[u8], k: usize) -> u8
         return w as u8;
     }
     255
+}
+
+// A trace number: the word modulo 2^32.
+pub(crate) fn whose_at(s: &[u8], k: usize) -> u32
+    requires { ⌜ k < 24 ⌝ }
+    ensures { λ r. ⌜ r ≡ whoseAt (now (s .entry)) k ⌝ }
+{
+    (word(s, k) % 0x1_0000_0000) as u32
 }
 
 pub(crate) fn yes_at(s: &[u8], k: usize) -> bool

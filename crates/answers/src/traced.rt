@@ -25,7 +25,8 @@ fn put_trace_on(out: &mut [u8], to: usize, s: &[u8], lent: &mut [u8]) -> usize
     let floats = floats_of(s);
     let n = request::word_up_to(s, 1, 16);
     let window = request::rect_at(s, 3);
-    let answer = trace::cut_trace(&floats[..n], window, lent);
+    let whose = request::whose_at(s, 23);
+    let answer = trace::cut_trace(&floats[..n], window, whose, lent);
     put_traced(out, to, answer, lent)
 }
 

@@ -27,7 +27,8 @@ fn put_walk_on(out: &mut [u8], to: usize, s: &[u8], lent: &mut [u8]) -> usize
     let target = request::number_at(s, 4);
     let b = request::uv_at(s, 5);
     let normal = request::vector_at(s, 7);
-    let answer = walk::walk(face, a, target, b, normal, lent);
+    let whose = request::whose_at(s, 11);
+    let answer = walk::walk(face, a, target, b, normal, whose, lent);
     put_walked(out, to, answer, lent)
 }
 

@@ -3,3 +3,4 @@ pub mod Stored
 pub mod Words
 pub mod Text
 pub mod Ends
+pub mod Parts

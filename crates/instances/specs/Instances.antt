@@ -41,15 +41,22 @@ up = vec n0 n0 n1
 abbrev pub walked : ℕ → Vector → ℕ → ℕ → WalkAnswer
 walked bytes n f t = walkOrRefusal bytes f middle t middle n
 
--- P13's records: the faces 0, 1 and 3, each with seven zero bytes after it; a float of 0, 1 or -1 is its last two bytes after six zeros
+-- P13's records: the faces 0, 1 and 3, each with three zero bytes after it and then whose it is; a float of 0, 1 or -1 is its last two bytes after six zeros
 abbrev pub word : ℕ → ℕ → List ℕ → List ℕ
 word low high rest = 0 ∷ 0 ∷ 0 ∷ 0 ∷ 0 ∷ 0 ∷ low ∷ high ∷ rest
 
-abbrev pub threeRecords : List ℕ → List ℕ
-threeRecords rest =
-    0 ∷ 0 ∷ 0 ∷ 0 ∷ 0 ∷ 0 ∷ 0 ∷ 0 ∷ word 0 0 (word 0 0 (word 240 63 (word 0 128 (
-    1 ∷ 0 ∷ 0 ∷ 0 ∷ 0 ∷ 0 ∷ 0 ∷ 0 ∷ word 240 191 (word 0 128 (word 240 63 (word 0 0 (
-    3 ∷ 0 ∷ 0 ∷ 0 ∷ 0 ∷ 0 ∷ 0 ∷ 0 ∷ word 0 128 (word 240 191 (word 0 0 (word 0 0 rest)))))))))))
+abbrev pub threeRecords : (List ℕ → List ℕ) → List ℕ → List ℕ
+threeRecords whose rest =
+    0 ∷ 0 ∷ 0 ∷ 0 ∷ whose (word 0 0 (word 0 0 (word 240 63 (word 0 128 (
+    1 ∷ 0 ∷ 0 ∷ 0 ∷ whose (word 240 191 (word 0 128 (word 240 63 (word 0 0 (
+    3 ∷ 0 ∷ 0 ∷ 0 ∷ whose (word 0 128 (word 240 191 (word 0 0 (word 0 0 rest))))))))))))))
+
+-- the trace numbers 0 and 4 * 2^24 + 3 * 2^16 + 2 * 2^8 + 1
+abbrev pub none : List ℕ → List ℕ
+none rest = 0 ∷ 0 ∷ 0 ∷ 0 ∷ rest
+
+abbrev pub oneToFour : List ℕ → List ℕ
+oneToFour rest = 1 ∷ 2 ∷ 3 ∷ 4 ∷ rest
 
 pub record Instances : Type 0 where
   -- (0,0)-(4,2), window x 1..3, y 0..2
@@ -89,11 +96,13 @@ pub record Instances : Type 0 where
   -- normal (0,0,1), face 0 (0,0) to face 3 (0,0): 0: (0,0)-(1,0); 1: (-1,0)-(1,0); 3: (0,-1)-(0,0). By IEEE 754 three of its zeros are -0
   pub p13 : walked 120 up 0 3 ≡ record { number = 0; count = 3 }
   -- the 120 bytes of its records, and then the old bytes
-  pub p13-bytes : bufferAfter (replicate 122 165) 0 middle 3 middle up ≡ threeRecords (165 ∷ 165 ∷ [])
-  pub p13-exact : bufferAfter (replicate 120 165) 0 middle 3 middle up ≡ threeRecords []
-  -- with a byte less, nothing
+  pub p13-bytes : bufferAfter (replicate 122 165) 0 middle 3 middle up 0 ≡ threeRecords none (165 ∷ 165 ∷ [])
+  pub p13-exact : bufferAfter (replicate 120 165) 0 middle 3 middle up 0 ≡ threeRecords none []
+  -- and with a trace number
+  pub p13-numbered : bufferAfter (replicate 122 165) 0 middle 3 middle up 0x04030201 ≡ threeRecords oneToFour (165 ∷ 165 ∷ [])
+  -- with a byte less, nothing, and no number either
   pub p13-short : walked 119 up 0 3 ≡ record { number = 8; count = 0 }
-  pub p13-unchanged : bufferAfter (replicate 119 165) 0 middle 3 middle up ≡ replicate 119 165
+  pub p13-unchanged : bufferAfter (replicate 119 165) 0 middle 3 middle up 0x04030201 ≡ replicate 119 165
   -- same, target 2
   pub p14 : walked 400 up 0 2 ≡ record { number = 7; count = 0 }
   -- normal (1,0,0), face 0 to 1

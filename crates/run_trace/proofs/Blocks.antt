@@ -13,6 +13,7 @@ use Rattle.float.specs.Choice.{when_then_else_}
 use Rattle.plane.specs.Point.{at, origin}
 use Rattle.plane.specs.declared.point.Point.{Point}
 use Rattle.plane.specs.declared.rect.Rect.{Rect}
+use Rattle.record.specs.Record.{joined}
 use Rattle.clip.specs.declared.Clipped.{Clipped}
 use Rattle.trace.specs.Trace.{traceCuts}
 use Rattle.trace.specs.Records.{recordsOf, howMany}
@@ -48,15 +49,15 @@ pieces w false p s t e h =
     (Join.pieces w [] s t refl e h)
 
 -- ---- the first edges of a piece
-module _ (w : Rect) (carried : Bool) (p : Point) (s : List ℕ) where
+module _ (whose : ℕ) (w : Rect) (carried : Bool) (p : Point) (s : List ℕ) where
   no-edges : (n : ℕ) → length (pieceFloats carried p (take n s)) < 4
-      → (length (pieceCuts w carried p (take n s)) ≡ 0) × (recordsOf (pieceCuts w carried p (take n s)) ≡ [])
-  unfolding recordsOf
-  no-edges n h = let none = no-edge true w (pieceFloats carried p (take n s)) h in (ap length none, ap recordsOf none)
+      → (length (pieceCuts w carried p (take n s)) ≡ 0) × (recordsOf whose (pieceCuts w carried p (take n s)) ≡ [])
+  unfolding joined
+  no-edges n h = let none = no-edge true w (pieceFloats carried p (take n s)) h in (ap length none, ap (recordsOf whose) none)
 
   some-edges : (n k : ℕ) → n % 16 ≡ 0 → 16 ≤ n → n ≤ length s → length (pieceFloats carried p (take n s)) / 2 - 1 ≡ k
       → (length (pieceCuts w carried p (take n s)) ≡ k)
-      × (recordsOf (pieceCuts w carried p (take n s)) ≡ take (k * 40) (recordsOf (pieceCuts w carried p s)))
+      × (recordsOf whose (pieceCuts w carried p (take n s)) ≡ take (k * 40) (recordsOf whose (pieceCuts w carried p s)))
   some-edges n k e h l f =
       let a = take n s in
       let b = drop n s in
@@ -64,11 +65,11 @@ module _ (w : Rect) (carried : Bool) (p : Point) (s : List ℕ) where
       let rest = pieceCuts w true (lastAfter p a) b in
       let size : length a ≡ n = length-take-le n s l in
       let j = pieces w carried p a b (omega arith) (omega arith) in
-      let all : recordsOf (pieceCuts w carried p s) ≡ recordsOf first ++ recordsOf rest
-      = ap (λ (l : List ℕ). recordsOf (pieceCuts w carried p l)) (sym (take-append-drop n s)) ∙ j .records in
+      let all : recordsOf whose (pieceCuts w carried p s) ≡ recordsOf whose first ++ recordsOf whose rest
+      = ap (λ (l : List ℕ). recordsOf whose (pieceCuts w carried p l)) (sym (take-append-drop n s)) ∙ j .records whose in
       let count : length first ≡ k = length-trace true w (pieceFloats carried p a) ∙ f in
-      let long : length (recordsOf first) ≡ k * 40 = length-records first ∙ ap (_* 40) count in
-      (count, sym (ap (take (k * 40)) all ∙ take-at (recordsOf first) (recordsOf rest) (k * 40) long))
+      let long : length (recordsOf whose first) ≡ k * 40 = length-records whose first ∙ ap (_* 40) count in
+      (count, sym (ap (take (k * 40)) all ∙ take-at (recordsOf whose first) (recordsOf whose rest) (k * 40) long))
 
 floats-long : (carried : Bool) (p : Point) (s : List ℕ) → length (pieceFloats carried p s) ≡ (when carried then 2 else 0) + floatsIn s
 unfolding pieceFloats when_then_else_
@@ -76,31 +77,31 @@ floats-long true p s = omega (arith, length-floats s 0 (floatsIn s))
 floats-long false p s = omega (arith, length-floats s 0 (floatsIn s))
 
 -- d floats before the bytes, and n bytes for k edges: 2k + 2 floats
-edges-of : (w : Rect) (carried : Bool) (p : Point) (s : List ℕ) (d n k : ℕ)
+edges-of : (whose : ℕ) (w : Rect) (carried : Bool) (p : Point) (s : List ℕ) (d n k : ℕ)
     → d ≡ (when carried then 2 else 0) → d ≤ 2 → n % 16 ≡ 0 → d + n / 8 ≡ 2 * k + 2 → k ≤ length (pieceCuts w carried p s)
     → (length (pieceCuts w carried p (take n s)) ≡ k)
-    × (recordsOf (pieceCuts w carried p (take n s)) ≡ take (k * 40) (recordsOf (pieceCuts w carried p s)))
-edges-of w carried p s d n k before few even f h =
+    × (recordsOf whose (pieceCuts w carried p (take n s)) ≡ take (k * 40) (recordsOf whose (pieceCuts w carried p s)))
+edges-of whose w carried p s d n k before few even f h =
     let all = floats-long carried p s in
     let part = floats-long carried p (take n s) in
     let edges = length-trace true w (pieceFloats carried p s) in
     let short : length (take n s) ≤ n = rw length-take (min-le-left n (length s)) in
     ⊎-elim
     (λ z.
-    let none = no-edges w carried p s n (omega arith) in
-    (none .0 ∙ sym z, none .1 ∙ sym (ap (λ (j : ℕ). take (j * 40) (recordsOf (pieceCuts w carried p s))) z)))
+    let none = no-edges whose w carried p s n (omega arith) in
+    (none .0 ∙ sym z, none .1 ∙ sym (ap (λ (j : ℕ). take (j * 40) (recordsOf whose (pieceCuts w carried p s))) z)))
     (λ z.
     let there : n ≤ length s = omega arith in
     let size : length (take n s) ≡ n = length-take-le n s there in
-    some-edges w carried p s n k even (omega arith) there (omega arith))
+    some-edges whose w carried p s n k even (omega arith) there (omega arith))
     (eq-zero-or-pos k)
 
-pub first-edges : (w : Rect) (carried : Bool) (p : Point) (s : List ℕ) (k : ℕ) → k ≤ length (pieceCuts w carried p s)
+pub first-edges : (whose : ℕ) (w : Rect) (carried : Bool) (p : Point) (s : List ℕ) (k : ℕ) → k ≤ length (pieceCuts w carried p s)
     → let first = pieceCuts w carried p (take (bytesFor carried k) s) in
-    (length first ≡ k) × (recordsOf first ≡ take (k * 40) (recordsOf (pieceCuts w carried p s)))
+    (length first ≡ k) × (recordsOf whose first ≡ take (k * 40) (recordsOf whose (pieceCuts w carried p s)))
 unfolding bytesFor when_then_else_
-first-edges w true p s k h = edges-of w true p s 2 (16 * k) k refl (omega arith) (omega arith) (omega arith) h
-first-edges w false p s k h = edges-of w false p s 0 (16 * k + 16) k refl (omega arith) (omega arith) (omega arith) h
+first-edges whose w true p s k h = edges-of whose w true p s 2 (16 * k) k refl (omega arith) (omega arith) (omega arith) h
+first-edges whose w false p s k h = edges-of whose w false p s 0 (16 * k + 16) k refl (omega arith) (omega arith) (omega arith) h
 
 -- ---- all of the blocks
 no-floats : (carried : Bool) (p : Point) → length (pieceFloats carried p []) < 4
@@ -108,27 +109,27 @@ unfolding pieceFloats when_then_else_ floatsFrom
 no-floats true p = omega arith
 no-floats false p = omega arith
 
-all-blocks : (w : Rect) (carried : Bool) (p : Point) (ss : List (List ℕ)) → Blocks ss
-    → (recordsOfBlocks w carried p ss ≡ recordsOf (pieceCuts w carried p (joinedBlocks ss)))
+all-blocks : (whose : ℕ) (w : Rect) (carried : Bool) (p : Point) (ss : List (List ℕ)) → Blocks ss
+    → (recordsOfBlocks whose w carried p ss ≡ recordsOf whose (pieceCuts w carried p (joinedBlocks ss)))
     × ((is : Clipped → Bool) → countOfBlocks is w carried p ss ≡ howMany is (pieceCuts w carried p (joinedBlocks ss)))
-unfolding Blocks joinedBlocks recordsOfBlocks countOfBlocks recordsOf howMany
-all-blocks w carried p [] b =
+unfolding Blocks joinedBlocks recordsOfBlocks countOfBlocks joined howMany
+all-blocks whose w carried p [] b =
     let none = no-edge true w (pieceFloats carried p []) (no-floats carried p) in
-    (sym (ap recordsOf none), λ is. sym (ap (howMany is) none))
-all-blocks w carried p (s ∷ []) b =
+    (sym (ap (recordsOf whose) none), λ is. sym (ap (howMany is) none))
+all-blocks whose w carried p (s ∷ []) b =
     let same = sym (append-nil s) in (
-      append-nil _ ∙ ap (λ (l : List ℕ). recordsOf (pieceCuts w carried p l)) same,
+      append-nil _ ∙ ap (λ (l : List ℕ). recordsOf whose (pieceCuts w carried p l)) same,
       λ is. add-zero _ ∙ ap (λ (l : List ℕ). howMany is (pieceCuts w carried p l)) same,
     )
-all-blocks w carried p (s ∷ t ∷ ss) (e, (h, b)) =
+all-blocks whose w carried p (s ∷ t ∷ ss) (e, (h, b)) =
     let j = pieces w carried p s (joinedBlocks (t ∷ ss)) e h in
-    let rest = all-blocks w true (lastAfter p s) (t ∷ ss) b in (
-      ap (recordsOf (pieceCuts w carried p s) ++_) (rest .0) ∙ sym (j .records),
+    let rest = all-blocks whose w true (lastAfter p s) (t ∷ ss) b in (
+      ap (recordsOf whose (pieceCuts w carried p s) ++_) (rest .0) ∙ sym (j .records whose),
       λ is. ap (howMany is (pieceCuts w carried p s) +_) (rest .1 is) ∙ sym (j .counts is),
     )
 
-pub whole : (w : Rect) (blocks : List (List ℕ)) → Blocks blocks
-    → (recordsOfBlocks w false origin blocks ≡ recordsOf (traceCuts true w (floatsOf (joinedBlocks blocks))))
+pub whole : (whose : ℕ) (w : Rect) (blocks : List (List ℕ)) → Blocks blocks
+    → (recordsOfBlocks whose w false origin blocks ≡ recordsOf whose (traceCuts true w (floatsOf (joinedBlocks blocks))))
     × ((is : Clipped → Bool) → countOfBlocks is w false origin blocks ≡ howMany is (traceCuts true w (floatsOf (joinedBlocks blocks))))
 unfolding pieceFloats when_then_else_
-whole w blocks b = all-blocks w false origin blocks b
+whole whose w blocks b = all-blocks whose w false origin blocks b

@@ -49,13 +49,13 @@ module _ (carried : Bool) (fs : List Float) where
   pub own-none : carried ≡ false → length fs < 2 → [] ≡ ownFloats carried fs
   own-none e h = let l : length fs ≤ 2 = omega arith in sym (drop-of-length-le fs l) ∙ after-two e
 
-abbrev pub CutOf : Rect → List ℕ → List ℕ → TraceAnswer → List Float → Type 0
-CutOf w xs ys a gs = (a ≡ answerOf gs w (length xs)) × ((ys ≡ bufferAfter xs gs w) × (a .edges * 40 ≤ length xs))
+abbrev pub CutOf : Rect → ℕ → List ℕ → List ℕ → TraceAnswer → List Float → Type 0
+CutOf w whose xs ys a gs = (a ≡ answerOf gs w (length xs)) × ((ys ≡ bufferAfter xs gs w whose) × (a .edges * 40 ≤ length xs))
 
 -- what holds of the floats that were cut holds of the piece
-pub of-piece : (carried : Bool) (fs gs : List Float) (w : Rect) (xs ys : List ℕ) (a : TraceAnswer) → gs ≡ ownFloats carried fs
-    → CutOf w xs ys a gs → CutOf w xs ys a (ownFloats carried fs)
-of-piece carried fs gs w xs ys a e = subst (CutOf w xs ys a) e
+pub of-piece : (carried : Bool) (fs gs : List Float) (w : Rect) (whose : ℕ) (xs ys : List ℕ) (a : TraceAnswer) → gs ≡ ownFloats carried fs
+    → CutOf w whose xs ys a gs → CutOf w whose xs ys a (ownFloats carried fs)
+of-piece carried fs gs w whose xs ys a e = subst (CutOf w whose xs ys a) e
 
 -- ---- the last sample
 pub last-none : (fs : List Float) → length fs < 2 → origin ≡ lastSample fs

@@ -45,9 +45,9 @@ module _ (p : Point) (s : List ℕ) (k : ℕ) (z : Float) (two : List Float) (n 
       rw (all, read) (front two s r ∙ ap (_++ floatsOf s) first)
 
   -- what was cut of it is the piece
-  pub cut-of : (carried : Bool) (w : Rect) (xs ys : List ℕ) (a : TraceAnswer)
-      → CutOf w xs ys a (ownFloats carried (take n out)) → CutOf w xs ys a (pieceFloats carried p s)
-  cut-of carried w xs ys a = subst (CutOf w xs ys a) (ap (ownFloats carried) filled ∙ own-is carried p s)
+  pub cut-of : (carried : Bool) (w : Rect) (whose : ℕ) (xs ys : List ℕ) (a : TraceAnswer)
+      → CutOf w whose xs ys a (ownFloats carried (take n out)) → CutOf w whose xs ys a (pieceFloats carried p s)
+  cut-of carried w whose xs ys a = subst (CutOf w whose xs ys a) (ap (ownFloats carried) filled ∙ own-is carried p s)
 
   pub last-of : (q : Point) → q ≡ lastSample (take n out) → q ≡ lastAfter p s
   last-of q h = h ∙ ap lastSample filled

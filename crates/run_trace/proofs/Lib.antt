@@ -5,3 +5,4 @@ pub mod Pieces
 pub mod Filled
 pub mod Blocks
 pub mod Promises
+pub mod Digits

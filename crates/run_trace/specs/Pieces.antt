@@ -51,9 +51,9 @@ joinedBlocks [] = []
 joinedBlocks (s ∷ ss) = s ++ joinedBlocks ss
 
 -- the records of each block's piece; the first block carries no sample over, and every other the last one before it
-unfoldable pub recordsOfBlocks : Rect → Bool → Point → List (List ℕ) → List ℕ
-recordsOfBlocks w carried p [] = []
-recordsOfBlocks w carried p (s ∷ ss) = recordsOf (traceCuts true w (pieceFloats carried p s)) ++ recordsOfBlocks w true (lastAfter p s) ss
+unfoldable pub recordsOfBlocks : ℕ → Rect → Bool → Point → List (List ℕ) → List ℕ
+recordsOfBlocks whose w carried p [] = []
+recordsOfBlocks whose w carried p (s ∷ ss) = recordsOf whose (traceCuts true w (pieceFloats carried p s)) ++ recordsOfBlocks whose w true (lastAfter p s) ss
 
 -- how many of their edges are of a kind
 unfoldable pub countOfBlocks : (Clipped → Bool) → Rect → Bool → Point → List (List ℕ) → ℕ

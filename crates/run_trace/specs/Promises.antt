@@ -1,4 +1,4 @@
--- What is promised of an input that is worked through in pieces. Statements only; proofs/Promises.antt has the proofs.
+-- What is promised of an input that is worked through in pieces, for every trace number. Statements only; proofs/Promises.antt has the proofs.
 use Prim.Native.Nat.{ℕ, _*_, _%_, _≤_}
 use mathlib.Core.Path.{_≡_}
 use mathlib.Core.Bool.{Bool, true, false}
@@ -24,10 +24,10 @@ pub record Promises : Type 0 where
   pub pieces : (w : Rect) (carried : Bool) (p : Point) (s t : List ℕ) → length s % 16 ≡ 0 → 16 ≤ length s
       → Joined (pieceCuts w carried p (s ++ t)) (pieceCuts w carried p s) (pieceCuts w true (lastAfter p s) t)
   -- so an input in blocks has the records and the counts of the whole
-  pub whole : (w : Rect) (blocks : List (List ℕ)) → Blocks blocks
-      → (recordsOfBlocks w false origin blocks ≡ recordsOf (traceCuts true w (floatsOf (joinedBlocks blocks))))
+  pub whole : (whose : ℕ) (w : Rect) (blocks : List (List ℕ)) → Blocks blocks
+      → (recordsOfBlocks whose w false origin blocks ≡ recordsOf whose (traceCuts true w (floatsOf (joinedBlocks blocks))))
       × ((is : Clipped → Bool) → countOfBlocks is w false origin blocks ≡ howMany is (traceCuts true w (floatsOf (joinedBlocks blocks))))
   -- the samples that the first k edges of a piece join have k edges, with the first k records
-  pub first-edges : (w : Rect) (carried : Bool) (p : Point) (s : List ℕ) (k : ℕ) → k ≤ length (pieceCuts w carried p s)
+  pub first-edges : (whose : ℕ) (w : Rect) (carried : Bool) (p : Point) (s : List ℕ) (k : ℕ) → k ≤ length (pieceCuts w carried p s)
       → let first = pieceCuts w carried p (take (bytesFor carried k) s) in
-      (length first ≡ k) × (recordsOf first ≡ take (k * 40) (recordsOf (pieceCuts w carried p s)))
+      (length first ≡ k) × (recordsOf whose first ≡ take (k * 40) (recordsOf whose (pieceCuts w carried p s)))

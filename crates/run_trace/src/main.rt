@@ -1,11 +1,13 @@
 // Cuts a trace of any length: a window and then samples on standard input, a record for each edge on
-// standard output, and on standard error what there is to say.
+// standard output, and on standard error what there is to say. The trace number of the records is the
+// word that it is started with, or 0.
 //
 // The input is worked through in pieces of up to 4,096 samples, each but the first beginning with the
 // last sample of the piece before it. By the join law their records, one after the other, are those of
 // the whole trace, and their counts add up to its counts: specs/Promises.antt, `whole`.
 mod piece;
 mod samples;
+mod words;
 
 ghost use mathlib.Core.Path.{_≡_};
 ghost use Rattle.run_trace.specs.Pieces.{withAnswer};
@@ -16,6 +18,7 @@ use plane::Point;
 use plane::Rect;
 use stream::Run;
 use trace::TraceAnswer;
+use words::Asked;
 
 // Of the edges whose records were written.
 struct Counts {
@@ -78,14 +81,14 @@ fn say_torn(bytes: usize) -> bool {
 }
 
 // Reads up to 4,095 samples and writes the records of their edges.
-fn next_piece(window: Rect, before: Progress) -> Progress {
+fn next_piece(window: Rect, whose: u32, before: Progress) -> Progress {
     let carried = before.carried;
     let sample = before.last;
     let mut bytes = [0u8; 65520];
     let got = stream::read_full(STDIN_FILENO, &mut bytes);
     let n = got.bytes;
     let mut records = [0u8; 163800];
-    let cut = piece::cut_piece(carried, sample, &bytes[..n], window, &mut records);
+    let cut = piece::cut_piece(carried, sample, &bytes[..n], window, whose, &mut records);
     let size = cut.answer.edges * 40;
     let taken = stream::write_all(STDOUT_FILENO, &records[..size]);
     let answer = piece::written(
@@ -110,7 +113,7 @@ fn next_piece(window: Rect, before: Progress) -> Progress {
 }
 
 // The pieces one after the other, to the end of the input or to a failure.
-fn cut_all(window: Rect) -> Progress {
+fn cut_all(window: Rect, whose: u32) -> Progress {
     let mut so_far = Progress {
         carried: false,
         last: Point { x: 0.0, y: 0.0 },
@@ -120,7 +123,7 @@ fn cut_all(window: Rect) -> Progress {
     };
     let mut pieces = u64::MAX;
     while 0 < pieces && so_far.run.more {
-        so_far = next_piece(window, so_far);
+        so_far = next_piece(window, whose, so_far);
         pieces -= 1;
     }
     so_far
@@ -142,7 +145,8 @@ fn end(run: Run, said: bool) {
     whole.end(b"trace");
 }
 
-fn main() {
+// The records of the trace of this number, of what is on standard input.
+fn run(whose: u32) {
     let mut head = [0u8; 32];
     let got = stream::read_full(STDIN_FILENO, &mut head);
     let begun = Run::new().with(0, got.failed, false, false);
@@ -171,6 +175,34 @@ fn main() {
         );
         return;
     }
-    let at_end = cut_all(window);
+    let at_end = cut_all(window, whose);
     end(at_end.run, say_all(at_end));
+}
+
+// What the word asks for; trace 0 without one. A word that does not fit here is too long for a number, and
+// comes with the length 0.
+fn asked() -> Asked {
+    if os::arg_count() < 2 {
+        return Asked::Number(0);
+    }
+    let mut word = [0u8; 16];
+    let n = os::arg(1, &mut word);
+    words::asked_by(&word[..n])
+}
+
+fn main() {
+    if 2 < os::arg_count() {
+        stream::end_refused(
+            b"trace: there is more than one word: a trace number is all that it takes\n",
+        );
+        return;
+    }
+    match asked() {
+        Asked::Number(whose) => run(whose),
+        Asked::NoNumber => {
+            stream::end_refused(
+                b"trace: the word is no trace number: ten digits at the most, up to 4294967295\n",
+            );
+        }
+    }
 }

@@ -23,11 +23,12 @@ pub(crate) fn cut_piece(
     before: Point,
     bytes: &[u8],
     window: Rect,
+    whose: u32,
     records: &mut [u8],
 ) -> Piece
     requires { ⌜ length (now bytes) ≤ 65520 ⌝ }
     ensures answer { λ r. ⌜ r .answer ≡ answerOf (pieceFloats carried before (now (bytes .entry))) window (length (now (records .entry))) ⌝ }
-    ensures bytes { λ _. ⌜ now (records .exit) ≡ bufferAfter (now (records .entry)) (pieceFloats carried before (now (bytes .entry))) window ⌝ }
+    ensures bytes { λ _. ⌜ now (records .exit) ≡ bufferAfter (now (records .entry)) (pieceFloats carried before (now (bytes .entry))) window whose ⌝ }
     ensures last { λ r. ⌜ r .last ≡ lastAfter before (now (bytes .entry)) ⌝ }
     ensures room { λ r. ⌜ r .answer .edges * 40 ≤ length (now (records .entry)) ⌝ }
 {
@@ -35,7 +36,7 @@ pub(crate) fn cut_piece(
     floats[0] = before.x;
     floats[1] = before.y;
     let n = samples::put_samples(bytes, &mut floats);
-    let answer = cut_floats(&floats[..n], carried, window, records);
+    let answer = cut_floats(&floats[..n], carried, window, whose, records);
     Piece {
         answer,
         last: last_sample(&floats[..n]),
@@ -61,7 +62,8 @@ pub(crate) fn written(
         return answer;
     }
     let n = at_most(bytes_for(carried, edges), bytes);
-    cut_piece(carried, before, &bytes[..n], window, records).answer
+    // The answer alone is asked for, and that is the same for every trace number.
+    cut_piece(carried, before, &bytes[..n], window, 0, records).answer
 }
 
 // A sample for each edge, and one more where none is carried over.
@@ -86,27 +88,33 @@ fn at_most(n: usize, bytes: &[u8]) -> usize
 }
 
 // The first two floats are the sample that is carried over, or stand for nothing.
-fn cut_floats(floats: &[f64], carried: bool, window: Rect, records: &mut [u8]) -> TraceAnswer
+fn cut_floats(
+    floats: &[f64],
+    carried: bool,
+    window: Rect,
+    whose: u32,
+    records: &mut [u8],
+) -> TraceAnswer
     ensures answer { λ r. ⌜ r ≡ answerOf (ownFloats carried (now (floats .entry))) window (length (now (records .entry))) ⌝ }
-    ensures bytes { λ _. ⌜ now (records .exit) ≡ bufferAfter (now (records .entry)) (ownFloats carried (now (floats .entry))) window ⌝ }
+    ensures bytes { λ _. ⌜ now (records .exit) ≡ bufferAfter (now (records .entry)) (ownFloats carried (now (floats .entry))) window whose ⌝ }
     ensures room { λ r. ⌜ r .edges * 40 ≤ length (now (records .entry)) ⌝ }
 {
     if carried {
-        return cut(floats, window, records);
+        return cut(floats, window, whose, records);
     }
     if floats.len() < 2 {
-        return cut(&floats[..0], window, records);
+        return cut(&floats[..0], window, whose, records);
     }
-    cut(&floats[2..], window, records)
+    cut(&floats[2..], window, whose, records)
 }
 
 // What is counted fits in what was lent.
-fn cut(floats: &[f64], window: Rect, records: &mut [u8]) -> TraceAnswer
+fn cut(floats: &[f64], window: Rect, whose: u32, records: &mut [u8]) -> TraceAnswer
     ensures answer { λ r. ⌜ r ≡ answerOf (now (floats .entry)) window (length (now (records .entry))) ⌝ }
-    ensures bytes { λ _. ⌜ now (records .exit) ≡ bufferAfter (now (records .entry)) (now (floats .entry)) window ⌝ }
+    ensures bytes { λ _. ⌜ now (records .exit) ≡ bufferAfter (now (records .entry)) (now (floats .entry)) window whose ⌝ }
     ensures room { λ r. ⌜ r .edges * 40 ≤ length (now (records .entry)) ⌝ }
 {
-    trace::cut_trace(floats, window, records)
+    trace::cut_trace(floats, window, whose, records)
 }
 
 // The last sample; the origin where there is none.

@@ -3,7 +3,8 @@
 //
 // No contract can say which bytes were read or written; what follows from the counts is under one.
 ghost use mathlib.Core.Path.{_≡_};
-ghost use Prim.Native.Nat.{_≤_};
+ghost use mathlib.Core.Logic.{_⊎_};
+ghost use Prim.Native.Nat.{_≤_, _<_};
 ghost use Rattle.io.specs.Counts.{Counts};
 ghost use Rattle.buffer.specs.Text.{lineEnds};
 ghost use Rattle.stream.specs.Run.{answeredOf, wholeLines, begun, goesOn, withBlock, statusIf, statusOf};
@@ -151,10 +152,30 @@ impl Run {
         }
         let status = status_of(self.unread, self.unwritten);
         if status != 0 {
-            io::write_all(STATUS_FILENO, &[b'0' + status]);
+            give(status);
         }
         status
     }
+}
+
+// Ends a program that is asked for what it does not do: says so on standard error, and gives the status 2, or 3 where
+// that could not be said.
+pub fn end_refused(why: &[u8]) -> u8
+    ensures { λ r. ⌜ (r ≡ 2) ⊎ (r ≡ 3) ⌝ }
+{
+    if io::write_all(STDERR_FILENO, why) {
+        give(2);
+        return 2;
+    }
+    give(3);
+    3
+}
+
+// A status that is one digit.
+fn give(status: u8)
+    requires { ⌜ status < 10 ⌝ }
+{
+    io::write_all(STATUS_FILENO, &[b'0' + status]);
 }
 
 fn goes_on(unread: bool, unwritten: bool, full: bool) -> bool

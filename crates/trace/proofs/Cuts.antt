@@ -5,16 +5,17 @@ use mathlib.Core.Path.{_≡_, refl, ap, _∙_}
 use mathlib.Core.Bool.{Bool, true, false}
 use mathlib.Core.List.{List, [], _∷_}
 use lib.Ieee.{Float}
-use lib.ListN.{length, length-append}
+use lib.ListN.{length}
 use Rattle.float.specs.Choice.{when_then_else_}
 use Rattle.plane.specs.declared.point.Point.{Point}
 use Rattle.plane.specs.declared.rect.Rect.{Rect}
 use Rattle.record.proofs.Words.{length-record}
-use Rattle.clip.specs.Answers.{numberOf, pointsOf}
+use Rattle.record.proofs.Joined.{length-joined}
+use Rattle.clip.specs.Answers.{numberOf}
 use Rattle.clip.specs.declared.Clipped.{Clipped}
 use Rattle.clip.specs.declared.Clipped.the-variants.{Kept, Missed, Refused}
 use Rattle.trace.specs.Trace.{samplesOf, cutsFrom, cutsOf, traceCuts}
-use Rattle.trace.specs.Records.{endsOf, cutBytes, recordsOf, isKept, isMissed, isRefused, howMany}
+use Rattle.trace.specs.Records.{cutEnds, cutBytes, recordsOf, isKept, isMissed, isRefused, howMany}
 
 -- ---- how many
 pub length-samples : (fs : List Float) → length (samplesOf fs) ≡ length fs / 2
@@ -46,11 +47,11 @@ module _ (touches : Bool) (w : Rect) where
   no-edge (x ∷ y ∷ z ∷ []) h = refl
   no-edge (x ∷ y ∷ z ∷ v ∷ fs) h = absurd (omega arith)
 
-pub length-records : (cs : List Clipped) → length (recordsOf cs) ≡ length cs * 40
-unfolding recordsOf
-length-records [] = refl
-length-records (c ∷ cs) =
-    omega (arith, length-append (cutBytes c) (recordsOf cs), length-record (numberOf c) 0 (endsOf (pointsOf c)), length-records cs)
+pub length-cut : (whose : ℕ) (c : Clipped) → length (cutBytes whose c) ≡ 40
+length-cut whose c = length-record (numberOf c) whose (cutEnds c)
+
+pub length-records : (whose : ℕ) (cs : List Clipped) → length (recordsOf whose cs) ≡ length cs * 40
+length-records whose = length-joined (cutBytes whose) (length-cut whose)
 
 -- ---- of which kind
 one-kind : (c : Clipped) (k m r n : ℕ) → k + m + r ≡ n

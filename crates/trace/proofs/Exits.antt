@@ -24,7 +24,7 @@ use Rattle.trace.specs.declared.TraceAnswer.{TraceAnswer}
 use Rattle.trace.proofs.Cuts.{length-trace, length-records}
 
 -- nothing is refused
-admitted : (trace window room : Bool) → inOrder trace window room ≡ 0 → (trace ≡ true) × (window ≡ true) × (room ≡ true)
+pub admitted : (trace window room : Bool) → inOrder trace window room ≡ 0 → (trace ≡ true) × (window ≡ true) × (room ≡ true)
 unfolding inOrder
 admitted trace window room e =
     split _ _ _ _ e (λ t f. split _ _ _ _ f (λ w g. split _ _ _ _ g (λ r h. (t, w, r)) (λ r h. absurd (omega arith))) (λ w g. absurd (omega arith))) (λ t f. absurd (omega arith))
@@ -41,7 +41,7 @@ module _ (fs : List Float) (w : Rect) (n bytes : ℕ) (d : n ≡ inOrder (traceF
       let even : length fs % 2 ≡ 0 = eqb-true _ _ p in
       let few : length fs / 2 ≤ 4096 = leb-true _ _ q in
       let room : length fs / 2 - 1 ≤ bytes / 40 = leb-true _ _ r in
-      (record { even = even; few = omega arith; fine = f; room = omega (arith, length-trace true w fs, length-records (traceCuts true w fs)) }, omega arith)
+      (record { even = even; few = omega arith; fine = f; room = omega (arith, length-trace true w fs) }, omega arith)
 
 -- bytes stored over a part in front, and then those after it
 in-front : (xs bs : List ℕ) (m : ℕ) → length bs ≡ m → m ≤ length xs → stored (take m xs) 0 bs ++ drop m xs ≡ followedBy bs xs
@@ -53,9 +53,9 @@ in-front xs bs m e h =
     let a : stored (take m xs) 0 bs ≡ bs = f ∙ ap (bs ++_) g ∙ append-nil bs in
     ap (_++ drop m xs) a ∙ ap (λ (k : ℕ). bs ++ drop k xs) (sym e)
 
-module _ (fs : List Float) (w : Rect) (xs ys : List ℕ) (n : ℕ) (d : n ≡ inOrder (traceFine (length fs)) (windowFine w) (roomFor (length fs / 2 - 1) (length xs))) where
+module _ (fs : List Float) (w : Rect) (whose : ℕ) (xs ys : List ℕ) (n : ℕ) (d : n ≡ inOrder (traceFine (length fs)) (windowFine w) (roomFor (length fs / 2 - 1) (length xs))) where
   abbrev Left : TraceAnswer → Type 0
-  Left r = (r ≡ answerOf fs w (length xs)) × (ys ≡ bufferAfter xs fs w)
+  Left r = (r ≡ answerOf fs w (length xs)) × (ys ≡ bufferAfter xs fs w whose)
 
   pub refused : (n ≡ 0 → ⊥) → ys ≡ xs → Left (noEdges n)
   unfolding bufferAfter
@@ -66,10 +66,10 @@ module _ (fs : List Float) (w : Rect) (xs ys : List ℕ) (n : ℕ) (d : n ≡ in
       (cc (e, o (howMany isKept cs), o (howMany isMissed cs), o (howMany isRefused cs), o (length cs)), ask-other n _ ys _ xs e z u)
 
   pub cut : n ≡ 0 → (edges : ℕ) → edges ≡ length fs / 2 - 1 → (r : TraceAnswer) → r ≡ traceAnswer 0 (traceCuts true w fs)
-      → (zs : List ℕ) → zs ≡ stored (take (edges * 40) xs) 0 (recordsOf (traceCuts true w fs)) → ys ≡ zs ++ drop (edges * 40) xs → Left r
+      → (zs : List ℕ) → zs ≡ stored (take (edges * 40) xs) 0 (recordsOf whose (traceCuts true w fs)) → ys ≡ zs ++ drop (edges * 40) xs → Left r
   unfolding bufferAfter
   cut z edges g r a zs u v =
       let e = number-is fs w n (length xs) d in
       let (f, h) = fits fs w n (length xs) d z edges g in
-      let b = v ∙ ap (_++ drop (edges * 40) xs) u ∙ in-front xs (recordsOf (traceCuts true w fs)) (edges * 40) (f .room) h in
+      let b = v ∙ ap (_++ drop (edges * 40) xs) u ∙ in-front xs (recordsOf whose (traceCuts true w fs)) (edges * 40) (length-records whose (traceCuts true w fs) ∙ f .room) h in
       (a ∙ ap (λ (m : ℕ). traceAnswer m (traceCuts true w fs)) (sym z ∙ e), ask-done n _ ys _ xs e z b)

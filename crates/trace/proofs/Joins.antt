@@ -3,12 +3,13 @@ use Prim.Native.Nat.{_+_, _%_}
 use native.Mathlib.Omega.{arith}
 use mathlib.Core.Path.{_≡_, refl, sym, ap, _∙_}
 use mathlib.Core.Bool.{Bool}
-use mathlib.Core.List.{List, [], _∷_, _++_, append-assoc}
+use mathlib.Core.List.{List, [], _∷_, _++_}
 use lib.Ieee.{Float}
 use lib.ListN.{length, length-append}
 use Rattle.plane.specs.Point.{at}
 use Rattle.plane.specs.declared.point.Point.{Point}
 use Rattle.plane.specs.declared.rect.Rect.{Rect}
+use Rattle.record.proofs.Joined.{joined-append}
 use Rattle.clip.specs.declared.Clipped.{Clipped}
 use Rattle.trace.specs.Trace.{samplesOf, edgeCut, cutsFrom, cutsOf, traceCuts}
 use Rattle.trace.specs.Records.{cutBytes, recordsOf, howMany}
@@ -43,11 +44,6 @@ module _ (touches : Bool) (w : Rect) where
       ap (cutsOf touches w) s ∙ cuts-join (samplesOf fs) p (samplesOf gs)
       ∙ ap (λ (ps : List Point). cutsOf touches w ps ++ cutsOf touches w (p ∷ samplesOf gs)) (sym t)
 
-records-join : (cs ds : List Clipped) → recordsOf (cs ++ ds) ≡ recordsOf cs ++ recordsOf ds
-unfolding recordsOf
-records-join [] ds = refl
-records-join (c ∷ cs) ds = ap (cutBytes c ++_) (records-join cs ds) ∙ sym (append-assoc (cutBytes c) (recordsOf cs) (recordsOf ds))
-
 counts-join : (is : Clipped → Bool) (cs ds : List Clipped) → howMany is (cs ++ ds) ≡ howMany is cs + howMany is ds
 unfolding howMany
 counts-join is [] ds = omega arith
@@ -56,7 +52,7 @@ counts-join is (c ∷ cs) ds = omega (arith, counts-join is cs ds)
 joined : (all cs ds : List Clipped) → all ≡ cs ++ ds → Joined all cs ds
 joined all cs ds e =
     record {
-      records = ap recordsOf e ∙ records-join cs ds;
+      records = λ whose. ap (recordsOf whose) e ∙ joined-append (cutBytes whose) cs ds;
       counts = λ is. ap (howMany is) e ∙ counts-join is cs ds;
       edges = ap length e ∙ length-append cs ds;
     }

@@ -4,6 +4,7 @@ pub mod Cuts
 pub mod Writing
 pub mod Exits
 pub mod Joins
+pub mod Lent
 pub mod Own
 pub mod OwnEnd
 pub mod Promises

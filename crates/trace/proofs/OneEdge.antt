@@ -102,9 +102,9 @@ kept-numbers a b w s e =
     }
 
 module _ (c : Clipped) where
-  pub wrote : (n to : ℕ) (e : Ends) (xs ys : List ℕ) → n ≡ numberOf c → e ≡ endsOf (pointsOf c)
-      → ys ≡ placed xs to (recordBytes n 0 e) → ys ≡ placed xs to (cutBytes c)
-  wrote n to e xs ys en ee ey = cc
+  pub wrote : (n whose to : ℕ) (e : Ends) (xs ys : List ℕ) → n ≡ numberOf c → e ≡ endsOf (pointsOf c)
+      → ys ≡ placed xs to (recordBytes n whose e) → ys ≡ placed xs to (cutBytes whose c)
+  wrote n whose to e xs ys en ee ey = cc
 
   pub number-kept : (s : Segment) → c ≡ Kept s → 0 ≡ numberOf c
   unfolding numberOf

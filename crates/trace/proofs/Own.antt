@@ -5,7 +5,7 @@ use native.Mathlib.Numerals.{add-one}
 use mathlib.Core.Path.{_≡_, refl, sym, ap, _∙_}
 use mathlib.Core.Logic.{_↔_}
 use mathlib.Core.Bool.{Bool, true, false}
-use mathlib.Core.List.{List, [], _∷_, _++_, append-nil}
+use mathlib.Core.List.{List, [], _∷_, append-nil}
 use lib.Dec.{ltb}
 use lib.ListN.{length, take, drop, getD, set, length-set, drop-of-length-le}
 use lib.Seq.{take-at, take-nil, drop-append-add, getD-set-other}
@@ -14,66 +14,59 @@ use borrow.Author.Tests.{ltb-true, ltb-false}
 use Rattle.plane.specs.Point.{origin}
 use Rattle.plane.specs.declared.point.Point.{Point}
 use Rattle.plane.specs.declared.rect.Rect.{Rect}
-use Rattle.record.specs.Record.{headBytes, recordOf, recordBytes}
-use Rattle.record.proofs.Words.{length-record}
+use Rattle.record.specs.Record.{headBytes, recordBytes, joined, recordAt}
+use Rattle.record.proofs.Joined.{first-record, next-record}
 use Rattle.clip.specs.Refuse.{pointFine}
-use Rattle.clip.specs.Answers.{clipped, numberOf, pointsOf}
+use Rattle.clip.specs.Answers.{clipped, numberOf}
 use Rattle.clip.specs.declared.Segment.{Segment}
 use Rattle.clip.specs.declared.Clipped.{Clipped}
 use Rattle.clip.specs.declared.Clipped.the-variants.{Kept, Missed, Refused}
 use Rattle.trace.specs.Trace.{touching, untouched, edgeCut, cutsFrom, cutsOf}
-use Rattle.trace.specs.Records.{endsOf, cutBytes, recordsOf}
-use Rattle.trace.specs.Promises.{sampleAt, recordAt}
+use Rattle.trace.specs.Records.{cutBytes, recordsOf}
+use Rattle.trace.specs.Promises.{sampleAt}
 use Rattle.trace.proofs.OneEdge.{dead-refused, live}
-use Rattle.trace.proofs.Cuts.{length-cuts, length-records}
-
-length-cut : (c : Clipped) → length (cutBytes c) ≡ 40
-length-cut c = length-record (numberOf c) 0 (endsOf (pointsOf c))
+use Rattle.trace.proofs.Cuts.{length-cuts, length-cut, length-records}
 
 -- ---- record k
-first-record : (c : Clipped) (cs : List Clipped) → recordAt 0 (recordsOf (c ∷ cs)) ≡ cutBytes c
-unfolding recordsOf
-first-record c cs = take-at (cutBytes c) (recordsOf cs) 40 (length-cut c)
+module _ (touches : Bool) (whose : ℕ) (w : Rect) where
+  of-first : (c : Clipped) (cs : List Clipped) → recordAt 0 (recordsOf whose (c ∷ cs)) ≡ cutBytes whose c
+  of-first c cs = rw append-nil at (first-record (cutBytes whose) (length-cut whose) [] c cs)
 
-next-record : (k : ℕ) (c : Clipped) (cs : List Clipped) → recordAt (suc k) (recordsOf (c ∷ cs)) ≡ recordAt k (recordsOf cs)
-unfolding recordsOf
-next-record k c cs =
-    let e : suc k * 40 ≡ length (cutBytes c) + k * 40 = omega (arith, length-cut c) in
-    ap (take 40) (ap (λ (n : ℕ). drop n (cutBytes c ++ recordsOf cs)) e ∙ drop-append-add (cutBytes c) (recordsOf cs) (k * 40))
+  of-next : (k : ℕ) (c : Clipped) (cs : List Clipped) → recordAt (suc k) (recordsOf whose (c ∷ cs)) ≡ recordAt k (recordsOf whose cs)
+  of-next k c cs = simp append-nil at (next-record (cutBytes whose) (length-cut whose) [] k c cs)
 
-module _ (touches : Bool) (w : Rect) where
   record-from : (a : Point) (ps : List Point) (k : ℕ) → k < length ps
-      → recordAt k (recordsOf (cutsFrom touches w a ps)) ≡ cutBytes (edgeCut touches w (sampleAt k (a ∷ ps)) (sampleAt k ps))
+      → recordAt k (recordsOf whose (cutsFrom touches w a ps)) ≡ cutBytes whose (edgeCut touches w (sampleAt k (a ∷ ps)) (sampleAt k ps))
   unfolding cutsFrom
   record-from a [] k h = absurd (omega arith)
-  record-from a (b ∷ ps) zero h = first-record _ _
-  record-from a (b ∷ ps) (suc k) h = next-record k _ _ ∙ record-from b ps k (omega arith)
+  record-from a (b ∷ ps) zero h = of-first _ _
+  record-from a (b ∷ ps) (suc k) h = of-next k _ _ ∙ record-from b ps k (omega arith)
 
   pub record-is : (ps : List Point) (k : ℕ) → k + 1 < length ps
-      → recordAt k (recordsOf (cutsOf touches w ps)) ≡ cutBytes (edgeCut touches w (sampleAt k ps) (sampleAt (k + 1) ps))
+      → recordAt k (recordsOf whose (cutsOf touches w ps)) ≡ cutBytes whose (edgeCut touches w (sampleAt k ps) (sampleAt (k + 1) ps))
   unfolding cutsOf
   record-is [] k h = absurd (omega arith)
   record-is (a ∷ ps) k h = rw (add-one k) (record-from a ps k (omega arith))
 
   pub own-samples : (ps : List Point) (k : ℕ) → k + 1 < length ps
-      → recordAt k (recordsOf (cutsOf touches w ps)) ≡ recordsOf (cutsOf touches w (sampleAt k ps ∷ sampleAt (k + 1) ps ∷ []))
-  unfolding cutsOf cutsFrom recordsOf
+      → recordAt k (recordsOf whose (cutsOf touches w ps)) ≡ recordsOf whose (cutsOf touches w (sampleAt k ps ∷ sampleAt (k + 1) ps ∷ []))
+  unfolding cutsOf cutsFrom joined
   own-samples ps k h = record-is ps k h ∙ sym (append-nil _)
 
-  no-record : (ps : List Point) (k : ℕ) → length ps ≤ k + 1 → recordAt k (recordsOf (cutsOf touches w ps)) ≡ []
+  no-record : (ps : List Point) (k : ℕ) → length ps ≤ k + 1 → recordAt k (recordsOf whose (cutsOf touches w ps)) ≡ []
   no-record ps k h =
-      let l : length (recordsOf (cutsOf touches w ps)) ≤ k * 40 = omega (arith, length-records (cutsOf touches w ps), length-cuts touches w ps) in
-      ap (take 40) (drop-of-length-le (recordsOf (cutsOf touches w ps)) l) ∙ take-nil 40
+      let l : length (recordsOf whose (cutsOf touches w ps)) ≤ k * 40 = omega (arith, length-records whose (cutsOf touches w ps), length-cuts touches w ps) in
+      ap (take 40) (drop-of-length-le (recordsOf whose (cutsOf touches w ps)) l) ∙ take-nil 40
 
   -- another sample elsewhere
   pub two-at-most : (ps : List Point) (i : ℕ) (p : Point) (k : ℕ) → (k ≡ i → ⊥) → (k + 1 ≡ i → ⊥)
-      → recordAt k (recordsOf (cutsOf touches w (set ps i p))) ≡ recordAt k (recordsOf (cutsOf touches w ps))
+      → recordAt k (recordsOf whose (cutsOf touches w (set ps i p))) ≡ recordAt k (recordsOf whose (cutsOf touches w ps))
   two-at-most ps i p k n m = go (ltb (k + 1) (length ps)) refl
     where
       l : length (set ps i p) ≡ length ps
       l = length-set ps i p
 
-      go : (b : Bool) → ltb (k + 1) (length ps) ≡ b → recordAt k (recordsOf (cutsOf touches w (set ps i p))) ≡ recordAt k (recordsOf (cutsOf touches w ps))
+      go : (b : Bool) → ltb (k + 1) (length ps) ≡ b → recordAt k (recordsOf whose (cutsOf touches w (set ps i p))) ≡ recordAt k (recordsOf whose (cutsOf touches w ps))
       go true e =
           let h : k + 1 < length ps = ltb-true _ _ e in
           let here = getD-set-other ps i k p origin n in
@@ -116,18 +109,18 @@ edge-dead false w a b =
     let (r, s) = clipped-dead a b w in
     (λ e. r (p e), λ e. q (s e))
 
-first-byte : (c : Clipped) → getD (cutBytes c) 0 0 ≡ numberOf c
-unfolding recordOf recordBytes headBytes
-first-byte c = refl
+first-byte : (whose : ℕ) (c : Clipped) → getD (cutBytes whose c) 0 0 ≡ numberOf c
+unfolding recordBytes headBytes
+first-byte whose c = refl
 
 -- byte 0 of record k is its edge's number
-pub number-is : (touches : Bool) (w : Rect) (ps : List Point) (k : ℕ) → k + 1 < length ps
-    → getD (recordAt k (recordsOf (cutsOf touches w ps))) 0 0 ≡ numberOf (edgeCut touches w (sampleAt k ps) (sampleAt (k + 1) ps))
-number-is touches w ps k h = ap (λ (bs : List ℕ). getD bs 0 0) (record-is touches w ps k h) ∙ first-byte _
+pub number-is : (touches : Bool) (whose : ℕ) (w : Rect) (ps : List Point) (k : ℕ) → k + 1 < length ps
+    → getD (recordAt k (recordsOf whose (cutsOf touches w ps))) 0 0 ≡ numberOf (edgeCut touches w (sampleAt k ps) (sampleAt (k + 1) ps))
+number-is touches whose w ps k h = ap (λ (bs : List ℕ). getD bs 0 0) (record-is touches whose w ps k h) ∙ first-byte whose _
 
-pub dead : (touches : Bool) (w : Rect) (ps : List Point) (k : ℕ) → k + 1 < length ps
-    → (getD (recordAt k (recordsOf (cutsOf touches w ps))) 0 0 ≡ 2) ↔ ((pointFine (sampleAt k ps) and pointFine (sampleAt (k + 1) ps)) ≡ false)
-dead touches w ps k h =
-    let e = number-is touches w ps k h in
+pub dead : (touches : Bool) (whose : ℕ) (w : Rect) (ps : List Point) (k : ℕ) → k + 1 < length ps
+    → (getD (recordAt k (recordsOf whose (cutsOf touches w ps))) 0 0 ≡ 2) ↔ ((pointFine (sampleAt k ps) and pointFine (sampleAt (k + 1) ps)) ≡ false)
+dead touches whose w ps k h =
+    let e = number-is touches whose w ps k h in
     let (p, q) = edge-dead touches w (sampleAt k ps) (sampleAt (k + 1) ps) in
     (λ f. p (sym e ∙ f), λ f. e ∙ q f)

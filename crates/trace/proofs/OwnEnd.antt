@@ -22,7 +22,8 @@ use Rattle.clip.specs.declared.Clipped.the-variants.{Kept, Missed, Refused}
 use Rattle.clip.proofs.Promises.{promises}
 use Rattle.trace.specs.Trace.{touching, untouched, edgeCut, cutsOf}
 use Rattle.trace.specs.Records.{cutBytes, recordsOf}
-use Rattle.trace.specs.Promises.{sampleAt, recordAt, LiveEdge, KeptEnds, KeptNear}
+use Rattle.record.specs.Record.{recordAt}
+use Rattle.trace.specs.Promises.{sampleAt, LiveEdge, KeptEnds, KeptNear}
 use Rattle.trace.proofs.OneEdge.{fine-edge}
 use Rattle.trace.proofs.Own.{record-is, number-is}
 
@@ -40,20 +41,20 @@ module _ (w : Rect) (ps : List Point) (k : ℕ) (l : LiveEdge w ps k) where
   number (inl i) = promises .a-kept a b w (l .floats) fine i .0
   number (inr i) = promises .b-kept a b w (l .floats) fine i .0
 
-  pub end-kept : InRect w a ⊎ InRect w b → KeptEnds w a b (recordAt k (recordsOf (cutsOf true w ps)))
+  pub end-kept : (whose : ℕ) → InRect w a ⊎ InRect w b → KeptEnds whose w a b (recordAt k (recordsOf whose (cutsOf true w ps)))
   unfolding edgeCut when_then_else_
-  end-kept i =
+  end-kept whose i =
       record {
         points = pointsOf (clipped a b w);
-        kept = record-is true w ps k (l .there) ∙ ap cutBytes (promises .zero-kept a b w (number i));
+        kept = record-is true whose w ps k (l .there) ∙ ap (cutBytes whose) (promises .zero-kept a b w (number i));
         first = λ j. promises .a-kept a b w (l .floats) fine j .1;
         second = λ j. promises .b-kept a b w (l .floats) fine j .1;
       }
 
-pub own-asks : (touches : Bool) (w : Rect) (ps : List Point) (k : ℕ) → LiveEdge w ps k
+pub own-asks : (touches : Bool) (whose : ℕ) (w : Rect) (ps : List Point) (k : ℕ) → LiveEdge w ps k
     → let a = sampleAt k ps in let b = sampleAt (k + 1) ps in
-    (recordAt k (recordsOf (cutsOf touches w ps)) ≡ cutBytes (edgeCut touches w a b)) × OwnAsks a b w (boxOf a b)
-own-asks touches w ps k l = (record-is touches w ps k (l .there), promises .values .edge-own-asks _ _ w (l .floats) (fine w ps k l))
+    (recordAt k (recordsOf whose (cutsOf touches w ps)) ≡ cutBytes whose (edgeCut touches w a b)) × OwnAsks a b w (boxOf a b)
+own-asks touches whose w ps k l = (record-is touches whose w ps k (l .there), promises .values .edge-own-asks _ _ w (l .floats) (fine w ps k l))
 
 -- ---- where an edge is kept, whether touches are or not, it is as its own cut has it
 touch-kept : (t : Bool) (s : Segment) → numberOf (when t then Missed else Kept s) ≡ done → (when t then Missed else Kept s) ≡ Kept s
@@ -72,15 +73,15 @@ unfolding edgeCut when_then_else_
 edge-kept true w a b e = refl
 edge-kept false w a b e = untouched-kept a b (clipped a b w) e
 
-pub kept-near : (touches : Bool) (w : Rect) (ps : List Point) (i : ℕ) → LiveEdge w ps i → (k : ℕ) → k ≤ 500
+pub kept-near : (touches : Bool) (whose : ℕ) (w : Rect) (ps : List Point) (i : ℕ) → LiveEdge w ps i → (k : ℕ) → k ≤ 500
     → let a = sampleAt i ps in let b = sampleAt (i + 1) ps in
-    every (within k) (a .x ∷ a .y ∷ b .x ∷ b .y ∷ []) ≡ true → getD (recordAt i (recordsOf (cutsOf touches w ps))) 0 0 ≡ done
-    → KeptNear k w a b (recordAt i (recordsOf (cutsOf touches w ps)))
-kept-near touches w ps i l k few within-k zero =
+    every (within k) (a .x ∷ a .y ∷ b .x ∷ b .y ∷ []) ≡ true → getD (recordAt i (recordsOf whose (cutsOf touches w ps))) 0 0 ≡ done
+    → KeptNear whose k w a b (recordAt i (recordsOf whose (cutsOf touches w ps)))
+kept-near touches whose w ps i l k few within-k zero =
     let a = sampleAt i ps in
     let b = sampleAt (i + 1) ps in
-    let n = sym (number-is touches w ps i (l .there)) ∙ zero in
+    let n = sym (number-is touches whose w ps i (l .there)) ∙ zero in
     let e = edge-kept touches w a b n in
     let m : numberOf (clipped a b w) ≡ done = ap numberOf (sym e) ∙ n in
     let (p, q) = promises .near .kept-near k few a b w (l .floats) m within-k in
-    record { points = pointsOf (clipped a b w); kept = record-is touches w ps i (l .there) ∙ ap cutBytes (e ∙ promises .zero-kept a b w m); first = p; second = q }
+    record { points = pointsOf (clipped a b w); kept = record-is touches whose w ps i (l .there) ∙ ap (cutBytes whose) (e ∙ promises .zero-kept a b w m); first = p; second = q }

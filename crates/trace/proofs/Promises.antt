@@ -13,6 +13,7 @@ use Rattle.trace.proofs.Cuts.{length-trace, all-kinds}
 use Rattle.trace.proofs.Own.{own-samples, two-at-most, dead}
 use Rattle.trace.proofs.OwnEnd.{end-kept, own-asks, kept-near}
 use Rattle.trace.proofs.Joins.{joins}
+use Rattle.trace.proofs.Lent.{lent}
 
 -- zeros add up too
 sums : (t : Bool) (k m r e : ℕ) → k + m + r ≡ e → (when t then k else 0) + (when t then m else 0) + (when t then r else 0) ≡ (when t then e else 0)
@@ -32,8 +33,9 @@ promises =
       own-samples = own-samples;
       two-at-most = two-at-most;
       dead = dead;
-      end-kept = end-kept;
+      end-kept = λ whose w ps k l. end-kept w ps k l whose;
       own-asks = own-asks;
       kept-near = kept-near;
       joins = joins;
+      lent = lent;
     }

@@ -1,5 +1,5 @@
 -- The records of a trace, written edge by edge: whatever is written already, what will be there in the end stays the same.
-use Prim.Native.Nat.{ℕ, suc, _+_, _-_, _/_, _≤_, _<_}
+use Prim.Native.Nat.{ℕ, suc, _+_, _-_, _*_, _/_, _≤_, _<_}
 use native.Mathlib.Omega.{arith}
 use native.Mathlib.Numerals.{add-one}
 use mathlib.Core.Path.{_≡_, refl, sym, ap, subst, _∙_}
@@ -12,7 +12,7 @@ use Rattle.float.specs.Choice.{when_then_else_, _and_}
 use Rattle.float.proofs.Choice.{then-is, else-is, and-both}
 use Rattle.answer.specs.Answer.{beside}
 use Rattle.buffer.specs.Bytes.{stored, placed}
-use Rattle.record.specs.Record.{recordBytes}
+use Rattle.record.specs.Record.{recordBytes, joined}
 use Rattle.record.proofs.Ahead.{ahead}
 use Rattle.plane.specs.declared.point.Point.{Point}
 use Rattle.plane.specs.declared.rect.Rect.{Rect}
@@ -36,17 +36,17 @@ unfolding beside when_then_else_
 counts-are cs k m r e ek em er ee = cc
 
 -- fewer than two samples: no record, and zeros
-pub none-written : (fs : List Float) (w : Rect) (out : List ℕ) → length (recordsOf (traceCuts true w fs)) ≡ length out → length out < 40
+pub none-written : (whose : ℕ) (fs : List Float) (w : Rect) (out : List ℕ) → length (traceCuts true w fs) * 40 ≡ length out → length out < 40
     → (noEdges 0 ≡ traceAnswer 0 (traceCuts true w fs))
-    × (out ≡ stored out 0 (recordsOf (traceCuts true w fs)))
-unfolding stored recordsOf howMany
-none-written fs w out r h =
-    let few : length fs < 4 = omega (arith, length-trace true w fs, length-records (traceCuts true w fs)) in
+    × (out ≡ stored out 0 (recordsOf whose (traceCuts true w fs)))
+unfolding stored joined howMany
+none-written whose fs w out r h =
+    let few : length fs < 4 = omega (arith, length-trace true w fs) in
     rw (no-edge true w fs few) (counts-are [] 0 0 0 0 refl refl refl refl, refl)
 
 -- where there is room for a record there are two samples
-pub two-samples : (fs : List Float) (w : Rect) (bytes : ℕ) → length (recordsOf (traceCuts true w fs)) ≡ bytes → 40 ≤ bytes → 4 ≤ length fs
-two-samples fs w bytes r h = omega (arith, length-trace true w fs, length-records (traceCuts true w fs))
+pub two-samples : (fs : List Float) (w : Rect) (bytes : ℕ) → length (traceCuts true w fs) * 40 ≡ bytes → 40 ≤ bytes → 4 ≤ length fs
+two-samples fs w bytes r h = omega (arith, length-trace true w fs)
 
 -- ---- before the first edge
 abbrev first : List Float → Progress
@@ -58,7 +58,7 @@ all-left [] w h = absurd (omega arith)
 all-left (x ∷ []) w h = absurd (omega arith)
 all-left (x ∷ y ∷ fs) w h = refl
 
-starts : (fs : List Float) (w : Rect) (bytes : ℕ) → 4 ≤ length fs → length (recordsOf (traceCuts true w fs)) ≤ bytes → Going fs w bytes (first fs)
+starts : (fs : List Float) (w : Rect) (bytes : ℕ) → 4 ≤ length fs → length (traceCuts true w fs) * 40 ≤ bytes → Going fs w bytes (first fs)
 starts fs w bytes h r =
     record { even = omega arith; within = omega arith; place = omega arith; few = omega arith; room = rw (all-left fs w h) (omega arith) }
 
@@ -74,9 +74,9 @@ left-step : (w : Rect) (fs : List Float) (p : Progress) (b : Point) (m n : ℕ) 
 unfolding samplesOf cutsFrom edgeCut when_then_else_
 left-step w fs p b m n h e = rw (two-more fs (p .k) nan h, e)
 
-records-step : {c : Clipped} {cs ds : List Clipped} → cs ≡ c ∷ ds → recordsOf cs ≡ cutBytes c ++ recordsOf ds
-unfolding recordsOf
-records-step e = ap recordsOf e
+records-step : (whose : ℕ) {c : Clipped} {cs ds : List Clipped} → cs ≡ c ∷ ds → recordsOf whose cs ≡ cutBytes whose c ++ recordsOf whose ds
+unfolding joined
+records-step whose e = ap (recordsOf whose) e
 
 counts-on : (is : Clipped → Bool) {c : Clipped} {cs ds : List Clipped} (j : ℕ) → cs ≡ c ∷ ds
     → j + (when is c then 1 else 0) + howMany is ds ≡ j + howMany is cs
@@ -87,31 +87,32 @@ outcomes : {xs ys : List ℕ} {j k m n : ℕ} → xs ≡ ys → j ≡ k → m �
 outcomes e f g = cc
 
 -- what an edge leaves: still such a progress, with the same outcome
-pub record Past (fs : List Float) (w : Rect) (out : List ℕ) (p : Progress) (ys : List ℕ) (q : Progress) : Type 0 where
+pub record Past (whose : ℕ) (fs : List Float) (w : Rect) (out : List ℕ) (p : Progress) (ys : List ℕ) (q : Progress) : Type 0 where
   pub going : Going fs w (length ys) q
-  pub same : outcome w fs ys q ≡ outcome w fs out p
+  pub same : outcome whose w fs ys q ≡ outcome whose w fs out p
   pub long : length ys ≡ length out
   pub on : p .k < q .k
 
-module _ (out : List ℕ) {fs : List Float} {w : Rect} {p : Progress} (g : Going fs w (length out) p) (t : Admitted fs w (length out)) where
+module _ (whose : ℕ) (out : List ℕ) {fs : List Float} {w : Rect} {p : Progress} (g : Going fs w (length out) p) (t : Admitted fs w (length out)) where
   -- where the records have as many bytes as are lent, a place in them is one of a sample
   pub next : 40 ≤ length out → p .to ≤ length out - 40 → p .k + 1 < length fs
-  next r h = omega (arith, g .place, t .even, t .room, length-trace true w fs, length-records (traceCuts true w fs))
+  next r h = omega (arith, g .place, t .even, t .room, length-trace true w fs)
 
   pub last : 40 ≤ length out → length out - 40 < p .to → length fs ≤ p .k
-  last r h = omega (arith, g .place, g .even, t .even, t .room, length-trace true w fs, length-records (traceCuts true w fs))
+  last r h = omega (arith, g .place, g .even, t .even, t .room, length-trace true w fs)
 
   pub small : Small p
   small = record { k = omega (arith, g .within, t .few); to = omega (arith, g .place, g .within, t .few); refused = omega (arith, g .few, g .within, t .few) }
 
   goes-on : (b : Point) (m n : ℕ) (ys : List ℕ) → p .k + 1 < length fs → b ≡ sampleOf fs (p .k)
       → m ≡ keptWith (p .kept) (clipped (p .a) b w) → n ≡ p .refused + (when isRefused (clipped (p .a) b w) then 1 else 0)
-      → ys ≡ placed out (p .to) (cutBytes (clipped (p .a) b w)) → Past fs w out p ys (pastEdge p b m n)
+      → ys ≡ placed out (p .to) (cutBytes whose (clipped (p .a) b w)) → Past whose fs w out p ys (pastEdge p b m n)
   goes-on b m n ys l eb em en ey =
       let c = clipped (p .a) b w in
       let q = pastEdge p b m n in
       let s = left-step w fs p b m n l eb in
-      let h = ahead out ys (p .to) _ 0 _ (recordsOf (cutsLeft w fs q)) (recordsOf (cutsLeft w fs p)) (records-step s) (g .room) ey in
+      let fit : p .to + length (recordsOf whose (cutsLeft w fs p)) ≤ length out = omega (arith, g .room, length-records whose (cutsLeft w fs p)) in
+      let h = ahead out ys (p .to) _ whose _ (recordsOf whose (cutsLeft w fs q)) (recordsOf whose (cutsLeft w fs p)) (records-step whose s) fit ey in
       record {
         going =
             record {
@@ -119,7 +120,7 @@ module _ (out : List ℕ) {fs : List Float} {w : Rect} {p : Progress} (g : Going
               within = omega arith;
               place = omega (arith, g .place);
               few = omega (arith, one-kind-most c, g .few, em, en);
-              room = h .room;
+              room = omega (arith, h .room, length-records whose (cutsLeft w fs q));
             };
         same =
             outcomes (h .same)
@@ -131,7 +132,7 @@ module _ (out : List ℕ) {fs : List Float} {w : Rect} {p : Progress} (g : Going
 
   -- a live edge is not refused
   pub past-live : Fine (p .a) (sampleOf fs (p .k)) w → (b : Point) (m : ℕ) (ys : List ℕ) → p .k + 1 < length fs → b ≡ sampleOf fs (p .k)
-      → m ≡ keptWith (p .kept) (clipped (p .a) b w) → ys ≡ placed out (p .to) (cutBytes (clipped (p .a) b w)) → Past fs w out p ys (pastEdge p b m (p .refused))
+      → m ≡ keptWith (p .kept) (clipped (p .a) b w) → ys ≡ placed out (p .to) (cutBytes whose (clipped (p .a) b w)) → Past whose fs w out p ys (pastEdge p b m (p .refused))
   past-live f b m ys l eb em ey = goes-on b m (p .refused) ys l eb em (none (clipped (p .a) b w) (fine-not-refused (p .a) b w (subst (λ (x : Point). Fine (p .a) x w) (sym eb) f))) ey
     where
       none : (c : Clipped) → isRefused c ≡ false → p .refused ≡ p .refused + (when isRefused c then 1 else 0)
@@ -139,31 +140,31 @@ module _ (out : List ℕ) {fs : List Float} {w : Rect} {p : Progress} (g : Going
 
   -- a dead one is, with 2
   pub past-dead : (pointFine (p .a) and pointFine (sampleOf fs (p .k))) ≡ false → (ys : List ℕ) → p .k + 1 < length fs
-      → ys ≡ placed out (p .to) (recordBytes 2 0 noEnds) → Past fs w out p ys (pastEdge p (sampleOf fs (p .k)) (p .kept) (p .refused + 1))
+      → ys ≡ placed out (p .to) (recordBytes 2 whose noEnds) → Past whose fs w out p ys (pastEdge p (sampleOf fs (p .k)) (p .kept) (p .refused + 1))
   past-dead d ys l ey =
       let b = sampleOf fs (p .k) in
       go (clipped (p .a) b w) (dead-refused (p .a) b w d) (goes-on b (p .kept) (p .refused + 1) ys l refl)
     where
       go : (c : Clipped) → Refused 2 ≡ c
-          → (p .kept ≡ keptWith (p .kept) c → p .refused + 1 ≡ p .refused + (when isRefused c then 1 else 0) → ys ≡ placed out (p .to) (cutBytes c) → Past fs w out p ys (pastEdge p (sampleOf fs (p .k)) (p .kept) (p .refused + 1)))
-          → Past fs w out p ys (pastEdge p (sampleOf fs (p .k)) (p .kept) (p .refused + 1))
+          → (p .kept ≡ keptWith (p .kept) c → p .refused + 1 ≡ p .refused + (when isRefused c then 1 else 0) → ys ≡ placed out (p .to) (cutBytes whose c) → Past whose fs w out p ys (pastEdge p (sampleOf fs (p .k)) (p .kept) (p .refused + 1)))
+          → Past whose fs w out p ys (pastEdge p (sampleOf fs (p .k)) (p .kept) (p .refused + 1))
       go c e k = unfold isKept isRefused numberOf pointsOf when_then_else_ in (rw (sym e) at k) (omega arith) refl ey
 
   -- ---- no edge is left
-  module _ (out₀ : List ℕ) (e : outcome w fs out p ≡ outcome w fs out₀ (first fs)) (some : 4 ≤ length fs) (h : length fs ≤ p .k) where
+  module _ (out₀ : List ℕ) (e : outcome whose w fs out p ≡ outcome whose w fs out₀ (first fs)) (some : 4 ≤ length fs) (h : length fs ≤ p .k) where
     none-left : cutsLeft w fs p ≡ []
     unfolding samplesOf cutsFrom
     none-left = rw (drop-of-length-le fs h)
 
     -- what is left of the one side is nothing, and of the other all
-    ended : outcome w fs out p ≡ record { bytes = out; kept = p .kept + 0; refused = p .refused + 0 }
-    unfolding stored recordsOf howMany
-    ended = ap (λ (cs : List Clipped). record { bytes = stored out (p .to) (recordsOf cs); kept = p .kept + howMany isKept cs; refused = p .refused + howMany isRefused cs }) none-left
+    ended : outcome whose w fs out p ≡ record { bytes = out; kept = p .kept + 0; refused = p .refused + 0 }
+    unfolding stored joined howMany
+    ended = ap (λ (cs : List Clipped). record { bytes = stored out (p .to) (recordsOf whose cs); kept = p .kept + howMany isKept cs; refused = p .refused + howMany isRefused cs }) none-left
 
-    whole : outcome w fs out₀ (first fs) ≡ record { bytes = stored out₀ 0 (recordsOf (traceCuts true w fs)); kept = 0 + howMany isKept (traceCuts true w fs); refused = 0 + howMany isRefused (traceCuts true w fs) }
-    whole = ap (λ (cs : List Clipped). record { bytes = stored out₀ 0 (recordsOf cs); kept = 0 + howMany isKept cs; refused = 0 + howMany isRefused cs }) (all-left fs w some)
+    whole : outcome whose w fs out₀ (first fs) ≡ record { bytes = stored out₀ 0 (recordsOf whose (traceCuts true w fs)); kept = 0 + howMany isKept (traceCuts true w fs); refused = 0 + howMany isRefused (traceCuts true w fs) }
+    whole = ap (λ (cs : List Clipped). record { bytes = stored out₀ 0 (recordsOf whose cs); kept = 0 + howMany isKept cs; refused = 0 + howMany isRefused cs }) (all-left fs w some)
 
-    all-written : out ≡ stored out₀ 0 (recordsOf (traceCuts true w fs))
+    all-written : out ≡ stored out₀ 0 (recordsOf whose (traceCuts true w fs))
     all-written = ap (λ (o : Outcome). o .bytes) (sym ended ∙ e ∙ whole)
 
     kept-all : p .kept ≡ howMany isKept (traceCuts true w fs)
@@ -184,12 +185,12 @@ module _ (out : List ℕ) {fs : List Float} {w : Rect} {p : Progress} (g : Going
         counts-are cs _ _ _ _ kept-all m refused-all l
 
 -- ---- from the first edge on, live or not
-pub record Written (fs : List Float) (w : Rect) (out₀ out : List ℕ) (p : Progress) : Type 0 where
+pub record Written (whose : ℕ) (fs : List Float) (w : Rect) (out₀ out : List ℕ) (p : Progress) : Type 0 where
   pub going : Going fs w (length out) p
-  pub same : outcome w fs out p ≡ outcome w fs out₀ (first fs)
+  pub same : outcome whose w fs out p ≡ outcome whose w fs out₀ (first fs)
   pub long : length out ≡ length out₀
 
-module _ {fs : List Float} {w : Rect} {out₀ out : List ℕ} {p : Progress} (t : Admitted fs w (length out₀)) (s : 40 ≤ length out₀) (v : Written fs w out₀ out p) where
+module _ {whose : ℕ} {fs : List Float} {w : Rect} {out₀ out : List ℕ} {p : Progress} (t : Admitted fs w (length out₀)) (s : 40 ≤ length out₀) (v : Written whose fs w out₀ out p) where
   here-too : Admitted fs w (length out)
   here-too = subst (Admitted fs w) (sym (v .long)) t
 
@@ -197,7 +198,7 @@ module _ {fs : List Float} {w : Rect} {out₀ out : List ℕ} {p : Progress} (t 
   room-too = omega (arith, s, v .long)
 
   pub written-next : p .to ≤ length out - 40 → Next (length fs) p
-  written-next h = record { small = small out (v .going) here-too; more = next out (v .going) here-too room-too h }
+  written-next h = record { small = small whose out (v .going) here-too; more = next whose out (v .going) here-too room-too h }
 
   pub written-live : p .to ≤ length out - 40 → pointFine (p .a) ≡ true → Live fs w (length out) p
   written-live h l = record { trace = here-too; going = v .going; some = room-too; more = h; live = l }
@@ -205,46 +206,46 @@ module _ {fs : List Float} {w : Rect} {out₀ out : List ℕ} {p : Progress} (t 
   -- where no edge is left
   module _ (h : length out - 40 < p .to) where
     over : length fs ≤ p .k
-    over = last out (v .going) here-too room-too h
+    over = last whose out (v .going) here-too room-too h
 
     two : 4 ≤ length fs
     two = two-samples fs w (length out₀) (t .room) s
 
     pub no-more-than : p .kept + p .refused ≤ length fs / 2 - 1
-    no-more-than = no-more out (v .going) here-too out₀ (v .same) two over
+    no-more-than = no-more whose out (v .going) here-too out₀ (v .same) two over
 
     pub counts-all : (edges : ℕ) → edges ≡ length fs / 2 - 1
         → record { number = 0; kept = p .kept; missed = edges - p .kept - p .refused; refused = p .refused; edges = edges } ≡ traceAnswer 0 (traceCuts true w fs)
-    counts-all = all-counted out (v .going) here-too out₀ (v .same) two over
+    counts-all = all-counted whose out (v .going) here-too out₀ (v .same) two over
 
-    pub writes-all : out ≡ stored out₀ 0 (recordsOf (traceCuts true w fs))
-    writes-all = all-written out (v .going) here-too out₀ (v .same) two over
+    pub writes-all : out ≡ stored out₀ 0 (recordsOf whose (traceCuts true w fs))
+    writes-all = all-written whose out (v .going) here-too out₀ (v .same) two over
 
-pub begins : (fs : List Float) (w : Rect) (out : List ℕ) → Admitted fs w (length out) → 40 ≤ length out → (a : Point) → a ≡ sampleOf fs 0
-    → Written fs w out out (record { a = a; k = 2; to = 0; kept = 0; refused = 0 })
-begins fs w out t s a e = rw e (record { going = starts fs w (length out) (two-samples fs w (length out) (t .room) s) (omega (arith, t .room)); same = refl; long = refl })
+pub begins : (whose : ℕ) (fs : List Float) (w : Rect) (out : List ℕ) → Admitted fs w (length out) → 40 ≤ length out → (a : Point) → a ≡ sampleOf fs 0
+    → Written whose fs w out out (record { a = a; k = 2; to = 0; kept = 0; refused = 0 })
+begins whose fs w out t s a e = rw e (record { going = starts fs w (length out) (two-samples fs w (length out) (t .room) s) (omega (arith, t .room)); same = refl; long = refl })
 
 -- between the live edges from the float k on and the dead one after them
-pub record Halted (fs : List Float) (w : Rect) (out₀ : List ℕ) (k : ℕ) (out : List ℕ) (p : Progress) : Type 0 where
-  pub written : Written fs w out₀ out p
+pub record Halted (whose : ℕ) (fs : List Float) (w : Rect) (out₀ : List ℕ) (k : ℕ) (out : List ℕ) (p : Progress) : Type 0 where
+  pub written : Written whose fs w out₀ out p
   pub dead : p .to ≤ length out - 40 → pointFine (p .a) ≡ false
   pub not-back : k ≤ p .k
   pub further : length out - 40 < p .to → k < p .k
 
-pub after-live : {fs : List Float} {w : Rect} {out₀ out ys : List ℕ} {p q : Progress} → Written fs w out₀ out p → ToDead fs w out p ys q → Halted fs w out₀ (p .k) ys q
+pub after-live : {whose : ℕ} {fs : List Float} {w : Rect} {out₀ out ys : List ℕ} {p q : Progress} → Written whose fs w out₀ out p → ToDead whose fs w out p ys q → Halted whose fs w out₀ (p .k) ys q
 after-live v t =
     record { written = record { going = t .going; same = t .same ∙ v .same; long = t .long ∙ v .long }; dead = t .dead; not-back = omega (arith, t .further); further = λ z. t .further }
 
-pub at-dead : {fs : List Float} {w : Rect} {out₀ out : List ℕ} {p : Progress} → Written fs w out₀ out p → p .to ≤ length out - 40 → pointFine (p .a) ≡ false → Halted fs w out₀ (p .k) out p
+pub at-dead : {whose : ℕ} {fs : List Float} {w : Rect} {out₀ out : List ℕ} {p : Progress} → Written whose fs w out₀ out p → p .to ≤ length out - 40 → pointFine (p .a) ≡ false → Halted whose fs w out₀ (p .k) out p
 at-dead v h d = record { written = v; dead = λ z. d; not-back = omega arith; further = λ z. absurd (omega arith) }
 
-module _ {fs : List Float} {w : Rect} {out₀ out : List ℕ} {p : Progress} {k : ℕ} (t : Admitted fs w (length out₀)) (s : 40 ≤ length out₀) (v : Halted fs w out₀ k out p) where
-  pub from-dead : p .to ≤ length out - 40 → (ys : List ℕ) → ys ≡ placed out (p .to) (recordBytes 2 0 noEnds)
-      → (q : Progress) → q ≡ pastEdge p (sampleOf fs (p .k)) (p .kept) (p .refused + 1) → Written fs w out₀ ys q × (length fs - q .k < length fs - k)
+module _ {whose : ℕ} {fs : List Float} {w : Rect} {out₀ out : List ℕ} {p : Progress} {k : ℕ} (t : Admitted fs w (length out₀)) (s : 40 ≤ length out₀) (v : Halted whose fs w out₀ k out p) where
+  pub from-dead : p .to ≤ length out - 40 → (ys : List ℕ) → ys ≡ placed out (p .to) (recordBytes 2 whose noEnds)
+      → (q : Progress) → q ≡ pastEdge p (sampleOf fs (p .k)) (p .kept) (p .refused + 1) → Written whose fs w out₀ ys q × (length fs - q .k < length fs - k)
   from-dead h ys ey q eq =
       let o = v .written in
       let l = written-next t s o h .more in
-      let e = past-dead out (o .going) (subst (Admitted fs w) (sym (o .long)) t) (sym (else-is _ _ _ _ (v .dead h) refl)) ys l ey in
+      let e = past-dead whose out (o .going) (subst (Admitted fs w) (sym (o .long)) t) (sym (else-is _ _ _ _ (v .dead h) refl)) ys l ey in
       rw eq (record { going = e .going; same = e .same ∙ o .same; long = e .long ∙ o .long }, omega (arith, v .not-back, e .on))
 
   pub none-further : length out - 40 < p .to → length fs - p .k < length fs - k
@@ -255,17 +256,17 @@ pub unsaid : {b t : Bool} → not b ≡ t → b ≡ not t
 unsaid {b} e = sym (Bool·not-not b) ∙ ap not e
 
 -- ---- along live samples: each start is live, and the outcome is still that of the first of them
-pub record Onward (fs : List Float) (w : Rect) (out₀ : List ℕ) (from : Progress) (out : List ℕ) (p : Progress) : Type 0 where
+pub record Onward (whose : ℕ) (fs : List Float) (w : Rect) (out₀ : List ℕ) (from : Progress) (out : List ℕ) (p : Progress) : Type 0 where
   pub going : Going fs w (length out) p
   pub live : pointFine (p .a) ≡ true
-  pub same : outcome w fs out p ≡ outcome w fs out₀ from
+  pub same : outcome whose w fs out p ≡ outcome whose w fs out₀ from
   pub long : length out ≡ length out₀
   pub not-back : from .k ≤ p .k
 
-pub sets-out : {fs : List Float} {w : Rect} {p : Progress} (out : List ℕ) → Live fs w (length out) p → Onward fs w out p out p
+pub sets-out : {whose : ℕ} {fs : List Float} {w : Rect} {p : Progress} (out : List ℕ) → Live fs w (length out) p → Onward whose fs w out p out p
 sets-out out v = record { going = v .going; live = v .live; same = refl; long = refl; not-back = omega arith }
 
-module _ {fs : List Float} {w : Rect} {out₀ : List ℕ} {from : Progress} {out : List ℕ} {p : Progress} (v : Live fs w (length out₀) from) (o : Onward fs w out₀ from out p) where
+module _ {whose : ℕ} {fs : List Float} {w : Rect} {out₀ : List ℕ} {from : Progress} {out : List ℕ} {p : Progress} (v : Live fs w (length out₀) from) (o : Onward whose fs w out₀ from out p) where
   here : Admitted fs w (length out)
   here = subst (Admitted fs w) (sym (o .long)) (v .trace)
 
@@ -273,27 +274,27 @@ module _ {fs : List Float} {w : Rect} {out₀ : List ℕ} {from : Progress} {out
   some-room = omega (arith, v .some, o .long)
 
   pub edge-next : p .to ≤ length out - 40 → Next (length fs) p
-  edge-next h = record { small = small out (o .going) here; more = next out (o .going) here some-room h }
+  edge-next h = record { small = small whose out (o .going) here; more = next whose out (o .going) here some-room h }
 
   pub edge-fine : (b : Point) → pointFine b ≡ true → Fine (p .a) b w
   edge-fine b e = fine-edge (p .a) b w (v .trace .fine) (and-both _ _ (o .live) e)
 
   -- to a live sample
   pub onward : p .to ≤ length out - 40 → (b : Point) → b ≡ sampleOf fs (p .k) → pointFine b ≡ true
-      → (m : ℕ) → m ≡ keptWith (p .kept) (clipped (p .a) b w) → (ys : List ℕ) → ys ≡ placed out (p .to) (cutBytes (clipped (p .a) b w))
-      → (q : Progress) → q ≡ pastEdge p b m (p .refused) → Onward fs w out₀ from ys q × (length fs - q .k < length fs - p .k)
+      → (m : ℕ) → m ≡ keptWith (p .kept) (clipped (p .a) b w) → (ys : List ℕ) → ys ≡ placed out (p .to) (cutBytes whose (clipped (p .a) b w))
+      → (q : Progress) → q ≡ pastEdge p b m (p .refused) → Onward whose fs w out₀ from ys q × (length fs - q .k < length fs - p .k)
   onward h b eb lb m em ys ey q eq =
       let l = edge-next h .more in
-      let t = past-live out (o .going) here (subst (λ (x : Point). Fine (p .a) x w) eb (edge-fine b lb)) b m ys l eb em ey in
+      let t = past-live whose out (o .going) here (subst (λ (x : Point). Fine (p .a) x w) eb (edge-fine b lb)) b m ys l eb em ey in
       rw eq (record { going = t .going; live = lb; same = t .same ∙ o .same; long = t .long ∙ o .long; not-back = omega (arith, o .not-back, t .on) }, omega arith)
 
   -- to a dead one, or with no edge left
-  pub to-dead : p .to ≤ length out - 40 → pointFine (sampleOf fs (p .k)) ≡ false → (ys : List ℕ) → ys ≡ placed out (p .to) (recordBytes 2 0 noEnds)
-      → (q : Progress) → q ≡ pastEdge p (sampleOf fs (p .k)) (p .kept) (p .refused + 1) → ToDead fs w out₀ from ys q
+  pub to-dead : p .to ≤ length out - 40 → pointFine (sampleOf fs (p .k)) ≡ false → (ys : List ℕ) → ys ≡ placed out (p .to) (recordBytes 2 whose noEnds)
+      → (q : Progress) → q ≡ pastEdge p (sampleOf fs (p .k)) (p .kept) (p .refused + 1) → ToDead whose fs w out₀ from ys q
   to-dead h d ys ey q eq =
-      let t = past-dead out (o .going) here (sym (then-is _ _ _ _ (o .live) (sym d))) ys (edge-next h .more) ey in
+      let t = past-dead whose out (o .going) here (sym (then-is _ _ _ _ (o .live) (sym d))) ys (edge-next h .more) ey in
       rw eq (record { going = t .going; further = omega (arith, o .not-back, t .on); dead = λ z. d; same = t .same ∙ o .same; long = t .long ∙ o .long })
 
-  pub to-end : length out - 40 < p .to → ToDead fs w out₀ from out p
+  pub to-end : length out - 40 < p .to → ToDead whose fs w out₀ from out p
   to-end h =
       record { going = o .going; further = omega (arith, v .more, o .long, v .going .place, o .going .place); dead = λ z. absurd (omega arith); same = o .same; long = o .long }

@@ -32,6 +32,6 @@ traceAnswer n cs =
 abbrev pub answerOf : List Float → Rect → ℕ → TraceAnswer
 answerOf fs w bytes = traceAnswer (traceNumber fs w bytes) (traceCuts true w fs)
 
--- with 0 the records followed by the old bytes, and with any other number the old bytes
-unfoldable pub bufferAfter : List ℕ → List Float → Rect → List ℕ
-bufferAfter xs fs w = beside (traceNumber fs w (length xs)) (followedBy (recordsOf (traceCuts true w fs)) xs) xs
+-- with 0 the records, of the trace number that was handed in, followed by the old bytes; with any other number the old bytes
+unfoldable pub bufferAfter : List ℕ → List Float → Rect → ℕ → List ℕ
+bufferAfter xs fs w whose = beside (traceNumber fs w (length xs)) (followedBy (recordsOf whose (traceCuts true w fs)) xs) xs

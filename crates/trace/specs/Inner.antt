@@ -23,7 +23,7 @@ pub record Admitted (fs : List Float) (w : Rect) (bytes : ℕ) : Type 0 where
   pub even : length fs % 2 ≡ 0
   pub few : length fs ≤ 8192
   pub fine : windowFine w ≡ true
-  pub room : length (recordsOf (traceCuts true w fs)) ≡ bytes
+  pub room : length (traceCuts true w fs) * 40 ≡ bytes
 
 -- ---- of one edge
 
@@ -58,10 +58,10 @@ pub record Outcome : Type 0 where
   pub kept : ℕ
   pub refused : ℕ
 
-abbrev pub outcome : Rect → List Float → List ℕ → Progress → Outcome
-outcome w fs out p =
+abbrev pub outcome : ℕ → Rect → List Float → List ℕ → Progress → Outcome
+outcome whose w fs out p =
     let cs = cutsLeft w fs p in
-    record { bytes = stored out (p .to) (recordsOf cs); kept = p .kept + howMany isKept cs; refused = p .refused + howMany isRefused cs }
+    record { bytes = stored out (p .to) (recordsOf whose cs); kept = p .kept + howMany isKept cs; refused = p .refused + howMany isRefused cs }
 
 -- of a progress over a trace and so many bytes: its places are those of one edge, and what is left has room
 pub record Going (fs : List Float) (w : Rect) (bytes : ℕ) (p : Progress) : Type 0 where
@@ -69,7 +69,7 @@ pub record Going (fs : List Float) (w : Rect) (bytes : ℕ) (p : Progress) : Typ
   pub within : p .k ≤ length fs
   pub place : p .to + 40 ≡ 20 * p .k
   pub few : p .kept + p .refused ≤ p .k
-  pub room : p .to + length (recordsOf (cutsLeft w fs p)) ≤ bytes
+  pub room : p .to + length (cutsLeft w fs p) * 40 ≤ bytes
 
 -- the next edge is there, and starts at a live sample
 pub record Live (fs : List Float) (w : Rect) (bytes : ℕ) (p : Progress) : Type 0 where
@@ -80,11 +80,11 @@ pub record Live (fs : List Float) (w : Rect) (bytes : ℕ) (p : Progress) : Type
   pub live : pointFine (p .a) ≡ true
 
 -- what its live edges lead to: no edge more, or one that starts at a dead sample; the outcome stays
-pub record ToDead (fs : List Float) (w : Rect) (out₀ : List ℕ) (from : Progress) (out : List ℕ) (p : Progress) : Type 0 where
+pub record ToDead (whose : ℕ) (fs : List Float) (w : Rect) (out₀ : List ℕ) (from : Progress) (out : List ℕ) (p : Progress) : Type 0 where
   pub going : Going fs w (length out) p
   pub further : from .k < p .k
   pub dead : p .to ≤ length out - 40 → pointFine (p .a) ≡ false
-  pub same : outcome w fs out p ≡ outcome w fs out₀ from
+  pub same : outcome whose w fs out p ≡ outcome whose w fs out₀ from
   pub long : length out ≡ length out₀
 
 -- the numbers of a progress are those of some trace, so that none is too great to go on

@@ -1,39 +1,40 @@
--- What is promised of a trace, whether touches are kept or not. Statements only; proofs/Promises.antt has their proofs.
-use Prim.Native.Nat.{ℕ, _+_, _-_, _*_, _/_, _%_, _≤_, _<_}
+-- What is promised of a trace, whether touches are kept or not, and for every trace number. Statements only; proofs/Promises.antt has their proofs.
+use Prim.Native.Nat.{ℕ, _+_, _-_, _/_, _%_, _≤_, _<_}
 use mathlib.Core.Path.{_≡_}
 use mathlib.Core.Logic.{_↔_, _⊎_}
 use mathlib.Core.Bool.{Bool, true, false}
 use mathlib.Core.List.{List, [], _∷_, _++_}
 use lib.Ieee.{Float}
-use lib.ListN.{length, take, drop, getD, set}
+use lib.ListN.{length, getD, set}
 use Rattle.float.specs.Choice.{_and_}
-use Rattle.answer.specs.Answer.{done, notFinite}
+use Rattle.answer.specs.Answer.{done, notFinite, beside}
+use Rattle.buffer.specs.Bytes.{followedBy}
+use Rattle.record.specs.Record.{joined, recordAt}
+use Rattle.record.specs.Numbered.{unnumbered, Numbered}
 use Rattle.plane.specs.Point.{origin}
 use Rattle.plane.specs.Rect.{boxOf}
 use Rattle.plane.specs.Within.{InRect}
 use Rattle.plane.specs.declared.point.Point.{Point}
 use Rattle.plane.specs.declared.rect.Rect.{Rect}
 use Rattle.clip.specs.Refuse.{pointFine, windowFine}
-use Rattle.clip.specs.Answers.{whole, firstOf, secondOf}
+use Rattle.clip.specs.Answers.{numberOf, whole, firstOf, secondOf}
 use Rattle.clip.specs.Values.{every, HandedIn, floatsOf, OwnAsks}
 use Rattle.clip.specs.Near.{within, KeptFrom}
 use Rattle.clip.specs.declared.Segment.{Segment}
 use Rattle.clip.specs.declared.Clipped.{Clipped}
 use Rattle.clip.specs.declared.Clipped.the-variants.{Kept}
 use Rattle.trace.specs.Trace.{edgeCut, cutsOf, traceCuts}
-use Rattle.trace.specs.Records.{cutBytes, recordsOf, howMany}
-use Rattle.trace.specs.Answers.{answerOf}
+use Rattle.trace.specs.Records.{cutEnds, cutBytes, recordsOf, howMany}
+use Rattle.trace.specs.Refuse.{traceNumber}
+use Rattle.trace.specs.Answers.{answerOf, bufferAfter}
 
--- sample k, and record k
+-- sample k
 abbrev pub sampleAt : ℕ → List Point → Point
 sampleAt k ps = getD ps k origin
 
-abbrev pub recordAt : ℕ → List ℕ → List ℕ
-recordAt k bytes = take 40 (drop (k * 40) bytes)
-
 -- the records and the counts of the whole are those of its two parts, joined and added
 pub record Joined (whole first second : List Clipped) : Type 0 where
-  pub records : recordsOf whole ≡ recordsOf first ++ recordsOf second
+  pub records : (whose : ℕ) → recordsOf whose whole ≡ recordsOf whose first ++ recordsOf whose second
   pub counts : (is : Clipped → Bool) → howMany is whole ≡ howMany is first + howMany is second
   pub edges : length whole ≡ length first + length second
 
@@ -45,18 +46,28 @@ pub record LiveEdge (w : Rect) (ps : List Point) (k : ℕ) : Type 0 where
   pub floats : HandedIn (floatsOf (sampleAt k ps) (sampleAt (k + 1) ps) w)
 
 -- the bytes are a kept edge's; and a or b, where it lies in the window, is in them as it was: a as a, b as b but for a coordinate that compares equal to a's
-pub record KeptEnds (w : Rect) (a b : Point) (bytes : List ℕ) : Type 0 where
+pub record KeptEnds (whose : ℕ) (w : Rect) (a b : Point) (bytes : List ℕ) : Type 0 where
   pub points : Segment
-  pub kept : bytes ≡ cutBytes (Kept points)
+  pub kept : bytes ≡ cutBytes whose (Kept points)
   pub first : InRect w a → firstOf points ≡ a
   pub second : InRect w b → secondOf points ≡ secondOf (whole a b)
 
 -- the bytes are a kept edge's, and each of its two points is the own sample as it was, or was cut at sides of the window and is within 2 ^ (k - 50) of the line
-pub record KeptNear (k : ℕ) (w : Rect) (a b : Point) (bytes : List ℕ) : Type 0 where
+pub record KeptNear (whose k : ℕ) (w : Rect) (a b : Point) (bytes : List ℕ) : Type 0 where
   pub points : Segment
-  pub kept : bytes ≡ cutBytes (Kept points)
+  pub kept : bytes ≡ cutBytes whose (Kept points)
   pub first : KeptFrom k a b w a (firstOf points)
   pub second : KeptFrom k a b w (secondOf (whole a b)) (secondOf points)
+
+-- what the entry leaves in the buffer xs
+pub record Lent (xs : List ℕ) (fs : List Float) (w : Rect) : Type 0 where
+  -- as many bytes as there were
+  pub as-long : (whose : ℕ) → length (bufferAfter xs fs w whose) ≡ length xs
+  -- the trace number is in each of the records that the answer counts, and changes no other byte
+  pub numbered : Numbered (bufferAfter xs fs w) (answerOf fs w (length xs) .edges)
+  -- with number 0 the records are as they were before there was one
+  pub of-none : bufferAfter xs fs w 0
+      ≡ beside (traceNumber fs w (length xs)) (followedBy (joined (λ c. unnumbered (numberOf c) (cutEnds c)) (traceCuts true w fs)) xs) xs
 
 pub record Promises : Type 0 where
   -- one edge fewer than samples, and none of no sample
@@ -65,31 +76,33 @@ pub record Promises : Type 0 where
   pub counts : (fs : List Float) (w : Rect) (bytes : ℕ)
       → let r = answerOf fs w bytes in r .kept + r .missed + r .refused ≡ r .edges
   -- record k is the one record of the trace of samples k and k + 1
-  pub own-samples : (touches : Bool) (w : Rect) (ps : List Point) (k : ℕ) → k + 1 < length ps
-      → recordAt k (recordsOf (cutsOf touches w ps))
-      ≡ recordsOf (cutsOf touches w (sampleAt k ps ∷ sampleAt (k + 1) ps ∷ []))
+  pub own-samples : (touches : Bool) (whose : ℕ) (w : Rect) (ps : List Point) (k : ℕ) → k + 1 < length ps
+      → recordAt k (recordsOf whose (cutsOf touches w ps))
+      ≡ recordsOf whose (cutsOf touches w (sampleAt k ps ∷ sampleAt (k + 1) ps ∷ []))
   -- so another sample at i changes at most the records i - 1 and i
-  pub two-at-most : (touches : Bool) (w : Rect) (ps : List Point) (i : ℕ) (p : Point) (k : ℕ)
+  pub two-at-most : (touches : Bool) (whose : ℕ) (w : Rect) (ps : List Point) (i : ℕ) (p : Point) (k : ℕ)
       → (k ≡ i → ⊥) → (k + 1 ≡ i → ⊥)
-      → recordAt k (recordsOf (cutsOf touches w (set ps i p))) ≡ recordAt k (recordsOf (cutsOf touches w ps))
+      → recordAt k (recordsOf whose (cutsOf touches w (set ps i p))) ≡ recordAt k (recordsOf whose (cutsOf touches w ps))
   -- byte 0 of record k is 2 exactly when sample k or k + 1 is dead
-  pub dead : (touches : Bool) (w : Rect) (ps : List Point) (k : ℕ) → k + 1 < length ps
-      → (getD (recordAt k (recordsOf (cutsOf touches w ps))) 0 0 ≡ notFinite)
+  pub dead : (touches : Bool) (whose : ℕ) (w : Rect) (ps : List Point) (k : ℕ) → k + 1 < length ps
+      → (getD (recordAt k (recordsOf whose (cutsOf touches w ps))) 0 0 ≡ notFinite)
       ↔ ((pointFine (sampleAt k ps) and pointFine (sampleAt (k + 1) ps)) ≡ false)
   -- with touches kept, a live edge of which sample k or k + 1 lies in the window is kept, with that sample as it was
-  pub end-kept : (w : Rect) (ps : List Point) (k : ℕ) → LiveEdge w ps k → InRect w (sampleAt k ps) ⊎ InRect w (sampleAt (k + 1) ps)
-      → KeptEnds w (sampleAt k ps) (sampleAt (k + 1) ps) (recordAt k (recordsOf (cutsOf true w ps)))
+  pub end-kept : (whose : ℕ) (w : Rect) (ps : List Point) (k : ℕ) → LiveEdge w ps k → InRect w (sampleAt k ps) ⊎ InRect w (sampleAt (k + 1) ps)
+      → KeptEnds whose w (sampleAt k ps) (sampleAt (k + 1) ps) (recordAt k (recordsOf whose (cutsOf true w ps)))
   -- record k is that of its edge's own cut, and each value that this asks for lies between the two samples' own coordinates
-  pub own-asks : (touches : Bool) (w : Rect) (ps : List Point) (k : ℕ) → LiveEdge w ps k
+  pub own-asks : (touches : Bool) (whose : ℕ) (w : Rect) (ps : List Point) (k : ℕ) → LiveEdge w ps k
       → let a = sampleAt k ps in let b = sampleAt (k + 1) ps in
-      (recordAt k (recordsOf (cutsOf touches w ps)) ≡ cutBytes (edgeCut touches w a b)) × OwnAsks a b w (boxOf a b)
+      (recordAt k (recordsOf whose (cutsOf touches w ps)) ≡ cutBytes whose (edgeCut touches w a b)) × OwnAsks a b w (boxOf a b)
   -- where samples i and i + 1 are at most 2 ^ k, so for k = 0 in -1..1, and record i is kept, its points are near the line
-  pub kept-near : (touches : Bool) (w : Rect) (ps : List Point) (i : ℕ) → LiveEdge w ps i → (k : ℕ) → k ≤ 500
+  pub kept-near : (touches : Bool) (whose : ℕ) (w : Rect) (ps : List Point) (i : ℕ) → LiveEdge w ps i → (k : ℕ) → k ≤ 500
       → let a = sampleAt i ps in let b = sampleAt (i + 1) ps in
-      every (within k) (a .x ∷ a .y ∷ b .x ∷ b .y ∷ []) ≡ true → getD (recordAt i (recordsOf (cutsOf touches w ps))) 0 0 ≡ done
-      → KeptNear k w a b (recordAt i (recordsOf (cutsOf touches w ps)))
+      every (within k) (a .x ∷ a .y ∷ b .x ∷ b .y ∷ []) ≡ true → getD (recordAt i (recordsOf whose (cutsOf touches w ps))) 0 0 ≡ done
+      → KeptNear whose k w a b (recordAt i (recordsOf whose (cutsOf touches w ps)))
   -- a trace cut at the sample x, y, which is sent in both halves
   pub joins : (touches : Bool) (w : Rect) (fs gs : List Float) (x y : Float) → length fs % 2 ≡ 0
       → Joined (traceCuts touches w (fs ++ (x ∷ y ∷ gs)))
       (traceCuts touches w (fs ++ (x ∷ y ∷ [])))
       (traceCuts touches w (x ∷ y ∷ gs))
+  -- of the bytes, whatever the entry is handed
+  pub lent : (xs : List ℕ) (fs : List Float) (w : Rect) → Lent xs fs w

@@ -1,10 +1,10 @@
 -- The records of cut edges, 40 bytes each, and how many were kept, missed and refused.
 use Prim.Native.Nat.{ℕ, _+_}
 use mathlib.Core.Bool.{Bool, true, false}
-use mathlib.Core.List.{List, [], _∷_, _++_}
+use mathlib.Core.List.{List, [], _∷_}
 use Rattle.float.specs.Choice.{when_then_else_}
 use Rattle.float.specs.Float.{zeroF}
-use Rattle.record.specs.Record.{Ends, recordBytes}
+use Rattle.record.specs.Record.{Ends, recordBytes, joined}
 use Rattle.clip.specs.Answers.{numberOf, pointsOf}
 use Rattle.clip.specs.declared.Segment.{Segment}
 use Rattle.clip.specs.declared.Clipped.{Clipped}
@@ -16,13 +16,15 @@ endsOf s = record { au = s .ax; av = s .ay; bu = s .bx; bv = s .by }
 abbrev pub noEnds : Ends
 noEnds = record { au = zeroF; av = zeroF; bu = zeroF; bv = zeroF }
 
--- the number of the edge's answer, seven zero bytes, then the four floats, zeros unless kept
-abbrev pub cutBytes : Clipped → List ℕ
-cutBytes c = recordBytes (numberOf c) 0 (endsOf (pointsOf c))
+abbrev pub cutEnds : Clipped → Ends
+cutEnds c = endsOf (pointsOf c)
 
-unfoldable pub recordsOf : List Clipped → List ℕ
-recordsOf [] = []
-recordsOf (c ∷ cs) = cutBytes c ++ recordsOf cs
+-- the number of the edge's answer, three zero bytes, whose it is, then the four floats, zeros unless kept
+abbrev pub cutBytes : ℕ → Clipped → List ℕ
+cutBytes whose c = recordBytes (numberOf c) whose (cutEnds c)
+
+abbrev pub recordsOf : ℕ → List Clipped → List ℕ
+recordsOf whose cs = joined (cutBytes whose) cs
 
 -- ---- counts
 

@@ -1,3 +1,5 @@
--- What C sees of an edge's answer, and of an axis.
+-- What C sees of an edge's answer, and of an axis; and what is promised of calls that write into one buffer.
 pub mod Cut
 pub mod Axis
+pub mod Calls
+pub mod Promises

@@ -6,9 +6,14 @@ use plane::Rect;
 use trace::TraceAnswer;
 
 #[no_mangle]
-pub extern "C" fn umb_cut_trace(samples: &[f64], window: Rect, out: &mut [u8]) -> TraceAnswer
+pub extern "C" fn umb_cut_trace(
+    samples: &[f64],
+    window: Rect,
+    whose: u32,
+    out: &mut [u8],
+) -> TraceAnswer
     ensures answer { λ r. ⌜ r ≡ answerOf (now (samples .entry)) window (length (now (out .entry))) ⌝ }
-    ensures bytes { λ _. ⌜ now (out .exit) ≡ bufferAfter (now (out .entry)) (now (samples .entry)) window ⌝ }
+    ensures bytes { λ _. ⌜ now (out .exit) ≡ bufferAfter (now (out .entry)) (now (samples .entry)) window whose ⌝ }
 {
-    trace::cut_trace(samples, window, out)
+    trace::cut_trace(samples, window, whose, out)
 }

@@ -13,10 +13,11 @@ pub extern "C" fn umb_walk(
     target: u8,
     b: Uv,
     normal: Vector,
+    whose: u32,
     out: &mut [u8],
 ) -> WalkAnswer
     ensures answer { λ r. ⌜ r ≡ walkOrRefusal (length (now (out .entry))) face a target b normal ⌝ }
-    ensures bytes { λ _. ⌜ now (out .exit) ≡ bufferAfter (now (out .entry)) face a target b normal ⌝ }
+    ensures bytes { λ _. ⌜ now (out .exit) ≡ bufferAfter (now (out .entry)) face a target b normal whose ⌝ }
 {
-    walk::walk(face, a, target, b, normal, out)
+    walk::walk(face, a, target, b, normal, whose, out)
 }

@@ -41,7 +41,7 @@ six p f t n F T d a b = go (eqb f t) refl (met p f) refl
     go false e false o = absurd (omega (arith, at-miss p f t 8 (omega arith) (eqb-false f t e) o))
 
 -- ---- which of the refusals a number comes from
-first : (m n k : ℕ) → (m ≡ k → k ≡ 0) → (m before n) ≡ k → (m ≡ 0) × (n ≡ k)
+pub first : (m n k : ℕ) → (m ≡ k → k ≡ 0) → (m before n) ≡ k → (m ≡ 0) × (n ≡ k)
 unfolding beside
 first m n k h e = split (eqb m 0) n m k e (λ p q. (eqb-true m 0 p, q)) (λ p q. absurd (eqb-false m 0 p (q ∙ h q)))
 

@@ -26,7 +26,7 @@ pub room-enough : (count bytes : ℕ) → count ≤ bytes / 40 → 0 ≡ roomRef
 unfolding roomRefusal
 room-enough count bytes h = when-le count (bytes / 40) 0 0 8 h refl
 
-module _ (f : ℕ) (a : Uv) (t : ℕ) (b : Uv) (p : Vector) where
+module _ (f : ℕ) (a : Uv) (t : ℕ) (b : Uv) (p : Vector) (whose : ℕ) where
   -- ---- what was found
   module _ (r : WalkAnswer) (g : r ≡ walkAnswer (stopNumber 8 p f t) (countOf 8 p f t)) where
     number-is : r .number ≡ stopNumber 8 p f t
@@ -39,24 +39,28 @@ module _ (f : ℕ) (a : Uv) (t : ℕ) (b : Uv) (p : Vector) where
     none-is z = ap (λ (r : WalkAnswer). r .count) g ∙ sym (ask-other _ _ 0 _ 0 number-is z refl)
 
     -- its records: so many bytes
-    so-long : r .number ≡ 0 → length (recordsOf (segments 8 p f a t b)) ≡ r .count * 40
-    so-long q = omega (arith, count-is q, length-records (segments 8 p f a t b))
+    so-long : r .number ≡ 0 → length (recordsOf whose (segments 8 p f a t b)) ≡ r .count * 40
+    so-long q = omega (arith, count-is q, length-records whose (segments 8 p f a t b))
+
+    -- eight at the most
+    pub at-most-eight : r .number ≡ 0 → r .count * 40 ≤ 320
+    at-most-eight q = omega (arith, so-long q, records-within whose 8 p f a t b)
 
     -- ---- and they stand aside, over bytes zs that hold eight
-    module _ (q : r .number ≡ 0) (zs aside : List ℕ) (z : 320 ≤ length zs) (w : stopNumber 8 p f t ≡ 0 → aside ≡ stored zs 0 (recordsOf (segments 8 p f a t b))) where
-      there : aside ≡ stored zs 0 (recordsOf (segments 8 p f a t b))
+    module _ (q : r .number ≡ 0) (zs aside : List ℕ) (z : 320 ≤ length zs) (w : stopNumber 8 p f t ≡ 0 → aside ≡ stored zs 0 (recordsOf whose (segments 8 p f a t b))) where
+      there : aside ≡ stored zs 0 (recordsOf whose (segments 8 p f a t b))
       there = w (sym number-is ∙ q)
 
       pub aside-holds : r .count * 40 ≤ length aside
-      aside-holds = omega (arith, so-long q, records-within 8 p f a t b, ap length there, length-stored zs 0 (recordsOf (segments 8 p f a t b)))
+      aside-holds = omega (arith, so-long q, records-within whose 8 p f a t b, ap length there, length-stored zs 0 (recordsOf whose (segments 8 p f a t b)))
 
-      pub aside-taken : take (r .count * 40) aside ≡ recordsOf (segments 8 p f a t b)
-      aside-taken = rw (there, ← so-long q) (stored-taken zs _ (omega (arith, records-within 8 p f a t b)))
+      pub aside-taken : take (r .count * 40) aside ≡ recordsOf whose (segments 8 p f a t b)
+      aside-taken = rw (there, ← so-long q) (stored-taken zs _ (omega (arith, records-within whose 8 p f a t b)))
 
   -- ---- the answer, and the buffer after
   module _ (xs ys : List ℕ) where
     abbrev pub Left : WalkAnswer → Type 0
-    Left r = (r ≡ walkOrRefusal (length xs) f a t b p) × (ys ≡ bufferAfter xs f a t b p)
+    Left r = (r ≡ walkOrRefusal (length xs) f a t b p) × (ys ≡ bufferAfter xs f a t b p whose)
 
     refused : (n : ℕ) → n ≡ walkNumber (length xs) f a t b p → (n ≡ 0 → ⊥) → ys ≡ xs → Left (record { number = n; count = 0 })
     unfolding walkOrRefusal bufferAfter
@@ -78,12 +82,12 @@ module _ (f : ℕ) (a : Uv) (t : ℕ) (b : Uv) (p : Vector) where
         unfolding walkNumber
         by-room m q e = ask-done n _ _ _ _ d o (ask-done _ _ _ _ _ (number-is r g) q e)
 
-        pub by-short : r .number ≡ 0 → length xs / 40 < r .count → ys ≡ xs → Left (record { number = 8; count = 0 })
+        pub by-short : r .number ≡ 0 → length xs < r .count * 40 → ys ≡ xs → Left (record { number = 8; count = 0 })
         by-short q h u =
             let l : length xs / 40 < length (segments 8 p f a t b) = omega (arith, count-is r g q) in
             refused 8 (by-room 8 q (room-short _ _ l)) (λ h. omega arith) u
 
-        pub by-done : r .number ≡ 0 → r .count ≤ length xs / 40 → (bs : List ℕ) → bs ≡ recordsOf (segments 8 p f a t b) → ys ≡ stored xs 0 bs → Left r
+        pub by-done : r .number ≡ 0 → r .count * 40 ≤ length xs → (bs : List ℕ) → bs ≡ recordsOf whose (segments 8 p f a t b) → ys ≡ stored xs 0 bs → Left r
         unfolding walkOrRefusal bufferAfter
         by-done q h bs k u =
             let l : length (segments 8 p f a t b) ≤ length xs / 40 = omega (arith, count-is r g q) in

@@ -15,6 +15,8 @@ pub mod Faces
 pub mod Arrive
 pub mod Admitted
 pub mod Entry
+pub mod Lent
 pub mod Promises
 pub mod Copied
+pub mod Along
 pub mod Step

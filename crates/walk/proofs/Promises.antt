@@ -4,6 +4,7 @@ use Rattle.walk.proofs.Chain.{linked, never-off}
 use Rattle.walk.proofs.Cycle.{never-arrives}
 use Rattle.walk.proofs.Arrive.{arrives-when}
 use Rattle.walk.proofs.Entry.{given-up, six, entry}
+use Rattle.walk.proofs.Lent.{lent}
 
 pub promises : Promises
 promises =
@@ -15,4 +16,5 @@ promises =
       arrives = λ p f t h. arrives-when (h .normal .finite) (h .normal .some) t (h .target) f (h .face) (h .meets);
       six = six;
       entry = entry;
+      lent = lent;
     }

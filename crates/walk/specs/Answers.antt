@@ -18,6 +18,6 @@ walkAnswer n count = record { number = n; count = beside n count 0 }
 unfoldable pub walkOrRefusal : ℕ → ℕ → Uv → ℕ → Uv → Vector → WalkAnswer
 walkOrRefusal bytes f a t b p = walkAnswer (walkNumber bytes f a t b p) (length (segments 8 p f a t b))
 
--- with 0 the records followed by the old bytes, and with any other number the old bytes
-unfoldable pub bufferAfter : List ℕ → ℕ → Uv → ℕ → Uv → Vector → List ℕ
-bufferAfter xs f a t b p = beside (walkNumber (length xs) f a t b p) (followedBy (recordsOf (segments 8 p f a t b)) xs) xs
+-- with 0 the records, of the trace number that was handed in, followed by the old bytes; with any other number the old bytes
+unfoldable pub bufferAfter : List ℕ → ℕ → Uv → ℕ → Uv → Vector → ℕ → List ℕ
+bufferAfter xs f a t b p whose = beside (walkNumber (length xs) f a t b p) (followedBy (recordsOf whose (segments 8 p f a t b)) xs) xs

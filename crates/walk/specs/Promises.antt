@@ -7,7 +7,10 @@ use mathlib.Core.List.{List, [], _∷_}
 use lib.ListN.{length}
 use Rattle.float.specs.Choice.{when_then_else_}
 use Rattle.float.specs.Float.{oneF}
-use Rattle.answer.specs.Answer.{done, offFace, unfinished, shortBuffer}
+use Rattle.answer.specs.Answer.{done, offFace, unfinished, shortBuffer, beside}
+use Rattle.buffer.specs.Bytes.{followedBy}
+use Rattle.record.specs.Record.{joined}
+use Rattle.record.specs.Numbered.{unnumbered, Numbered}
 use Rattle.cube.specs.Vector.{vec, isZero, HandedIn}
 use Rattle.cube.specs.Faces.{pointAt, uvwOf}
 use Rattle.cube.specs.Promises.{InUnit, InSquare}
@@ -16,8 +19,9 @@ use Rattle.cube.specs.declared.compute.Uv.{Uv}
 use Rattle.line.specs.declared.compute.Axis.{Axis}
 use Rattle.line.specs.Line.{oneIf, otherAxis, coordinate}
 use Rattle.line.specs.Promises.{Finite}
-use Rattle.walk.specs.Walk.{met, stopNumber, Segment, segments}
+use Rattle.walk.specs.Walk.{met, stopNumber, Segment, segments, segmentEnds}
 use Rattle.walk.specs.Refuse.{inputRefusal, walkNumber}
+use Rattle.walk.specs.Answers.{walkOrRefusal, bufferAfter}
 
 -- a finite normal that is not zero
 pub record Normal (p : Vector) : Type 0 where
@@ -78,6 +82,17 @@ pub record Entry (bytes f : ℕ) (a : Uv) (t : ℕ) (b : Uv) (p : Vector) : Type
   -- and of an input that is admitted, on a first face that the line meets, the number is 0 where it meets the target too, and else 7
   pub given : inputRefusal f a t b p ≡ done → met p f ≡ true → 240 ≤ bytes → walkNumber bytes f a t b p ≡ (when met p t then done else unfinished)
 
+-- ---- what the entry leaves in the buffer xs
+
+pub record Lent (xs : List ℕ) (f : ℕ) (a : Uv) (t : ℕ) (b : Uv) (p : Vector) : Type 0 where
+  -- as many bytes as there were
+  pub as-long : (whose : ℕ) → length (bufferAfter xs f a t b p whose) ≡ length xs
+  -- the trace number is in each of the records that the answer counts, and changes no other byte
+  pub numbered : Numbered (bufferAfter xs f a t b p) (walkOrRefusal (length xs) f a t b p .count)
+  -- with number 0 the records are as they were before there was one
+  pub of-none : bufferAfter xs f a t b p 0
+      ≡ beside (walkNumber (length xs) f a t b p) (followedBy (joined (λ s. unnumbered (s .face) (segmentEnds s)) (segments 8 p f a t b)) xs) xs
+
 -- ---- all of it
 
 pub record Promises : Type 0 where
@@ -95,3 +110,5 @@ pub record Promises : Type 0 where
   pub six : (p : Vector) (f t : ℕ) → Normal p → f ≤ 5 → t ≤ 5 → stopNumber 8 p f t ≡ done → (a b : Uv) → length (segments 8 p f a t b) ≤ 6
   -- the same of the number that the entry gives, with a buffer of any length and whatever points
   pub entry : (bytes f : ℕ) (a : Uv) (t : ℕ) (b : Uv) (p : Vector) → HandedIn p → Entry bytes f a t b p
+  -- and of what it leaves, whatever it is handed
+  pub lent : (xs : List ℕ) (f : ℕ) (a : Uv) (t : ℕ) (b : Uv) (p : Vector) → Lent xs f a t b p

@@ -1,7 +1,7 @@
 -- The walk along a line from face to face: the rules of document 01, in its order. The line has the normal p, and the walk goes from the point a of the face f to the point b of the face t.
 use Prim.Native.Nat.{ℕ, zero, suc}
 use mathlib.Core.Bool.{Bool}
-use mathlib.Core.List.{List, [], _∷_, _++_}
+use mathlib.Core.List.{List, [], _∷_}
 use lib.Dec.{eqb}
 use Rattle.float.specs.Choice.{when_then_else_}
 use Rattle.answer.specs.Answer.{done, offFace, unfinished}
@@ -9,7 +9,7 @@ use Rattle.cube.specs.Faces.{uv, pointAt, uvwOf}
 use Rattle.cube.specs.declared.vector.Vector.{Vector}
 use Rattle.cube.specs.declared.compute.Uv.{Uv}
 use Rattle.line.specs.Line.{meetsFace, leftAt, onward}
-use Rattle.record.specs.Record.{Ends, recordBytes}
+use Rattle.record.specs.Record.{Ends, recordBytes, joined}
 
 -- ---- a step: the exit point is `leftAt p f`, the next face `onward p f t`
 
@@ -59,14 +59,16 @@ countOf (suc k) p f t =
     when eqb f t then 1
     else suc (countOf k p (onward p f t) t)
 
--- ---- the records, 40 bytes each, with no header
+-- ---- the records, 40 bytes each, with no header: of each segment its face, whose it is, its two points
 
 abbrev pub endsOf : Uv → Uv → Ends
 endsOf a b = record { au = a .u; av = a .v; bu = b .u; bv = b .v }
 
-abbrev pub segmentBytes : Segment → List ℕ
-segmentBytes s = recordBytes (s .face) 0 (endsOf (s .a) (s .b))
+abbrev pub segmentEnds : Segment → Ends
+segmentEnds s = endsOf (s .a) (s .b)
 
-unfoldable pub recordsOf : List Segment → List ℕ
-recordsOf [] = []
-recordsOf (s ∷ ss) = segmentBytes s ++ recordsOf ss
+abbrev pub segmentBytes : ℕ → Segment → List ℕ
+segmentBytes whose s = recordBytes (s .face) whose (segmentEnds s)
+
+abbrev pub recordsOf : ℕ → List Segment → List ℕ
+recordsOf whose ss = joined (segmentBytes whose) ss

@@ -112,24 +112,31 @@ pub struct FaceSegment {
     pub b: Point,
 }
 
-/// A segment in a lent buffer: the face and seven zero bytes, then a.u, a.v, b.u, b.v, little-endian.
+/// A segment in a lent buffer, as five words.
 type Record = [[u8; 8]; 5];
 
 /// A walk that is done has no more segments.
 const MOST: usize = 6;
 
-/// Walks the line with this normal (in x, y, z) from the point a of a face to the point b of the target and writes a
-/// record of 40 bytes for each segment, from the buffer's first byte on; gives their count, 6 at the most. Refused with
-/// BadFace for face or target, NotFinite, Zero, OffFace or Unfinished as the walk finds them, ShortBuffer. The bytes
-/// after the last record stay as they were, and where it is refused all do.
-pub fn walk(face: u8, a: Point, target: u8, b: Point, normal: Vector, out: &mut [u8]) -> Result<usize, Refusal> {
-    ffi::umb_walk(face, a, target, b, normal, out)
+/// Walks the line with this normal (in x, y, z) from the point a of a face to the point b of the target and writes
+/// [a record](crate::trace#the-record) for each segment; gives their count, 6 at the most. Refused with BadFace for
+/// face or target, NotFinite, Zero, OffFace or Unfinished as the walk finds them, ShortBuffer.
+pub fn walk(
+    face: u8,
+    a: Point,
+    target: u8,
+    b: Point,
+    normal: Vector,
+    whose: u32,
+    out: &mut [u8],
+) -> Result<usize, Refusal> {
+    ffi::umb_walk(face, a, target, b, normal, whose, out)
 }
 
-/// The segments of that walk. Refused as the walk is, but never for want of room.
+/// The segments of that walk, which say nothing of whose they are. Refused as the walk is, but never for want of room.
 pub fn segments(face: u8, a: Point, target: u8, b: Point, normal: Vector) -> Result<Vec<FaceSegment>, Refusal> {
     let mut records: [Record; MOST] = Default::default();
-    let count = walk(face, a, target, b, normal, records.as_flattened_mut().as_flattened_mut())?;
+    let count = walk(face, a, target, b, normal, 0, records.as_flattened_mut().as_flattened_mut())?;
     Ok(records.iter().take(count).map(segment).collect())
 }
 

@@ -2,8 +2,8 @@
 
 mod words;
 
-use std::fs;
 use std::path::{Path, PathBuf};
+use std::{array, fs};
 use umblacet::r1::interval::Interval;
 use umblacet::r2::{point::Point, rect::Rect};
 use umblacet::s2::edge_clipping;
@@ -15,6 +15,9 @@ use words::{Arguments, Shown, REQUEST};
 const WALK: u64 = 60;
 const TRACE: u64 = 61;
 const RECORD: usize = 40;
+
+/// A request has room for so many of a trace.
+const FLOATS: usize = 16;
 
 #[test]
 fn every_line() {
@@ -30,10 +33,12 @@ fn every_walk_has_its_segments() {
     for request in list().0.iter().filter(|request| request[0] == WALK) {
         let (walked, bytes) = walk(&mut arguments(request));
         let mut a = arguments(request);
-        match edge_clipping::segments(a.take(), a.take(), a.take(), a.take(), a.take()) {
+        let segments = edge_clipping::segments(a.take(), a.take(), a.take(), a.take(), a.take());
+        let (_, whose): (u64, u32) = (a.take(), a.take());
+        match segments {
             Ok(segments) if walked.is_ok() => {
                 assert_eq!(walked, Ok(segments.len()));
-                let records = segments.iter().flat_map(|segment| record(segment.face, segment.a, segment.b));
+                let records = segments.iter().flat_map(|segment| record(segment.face, whose, segment.a, segment.b));
                 assert!(bytes.starts_with(&records.collect::<Vec<u8>>()));
             }
             Ok(segments) => {
@@ -53,11 +58,12 @@ fn every_trace_has_its_edges() {
         let (Ok(counts), bytes) = trace(&mut arguments(request)) else { continue };
         let mut a = arguments(request);
         let (_, _, window): (u64, u64, Rect) = (a.take(), a.take(), a.take());
-        let samples: Vec<Point> = (0..=counts.edges).map(|_| a.take()).collect();
-        for (edge, written) in samples.windows(2).zip(bytes.chunks(RECORD)) {
+        let samples: [Point; FLOATS / 2] = array::from_fn(|_| a.take());
+        let whose = a.take();
+        for (edge, written) in samples.windows(2).zip(bytes.chunks(RECORD)).take(counts.edges) {
             let expected = match edge_clipping::clip_edge(edge[0], edge[1], window) {
-                Ok((kept_a, kept_b)) => record(0, kept_a, kept_b),
-                Err(refusal) => record(refusal.number(), Point { x: 0.0, y: 0.0 }, Point { x: 0.0, y: 0.0 }),
+                Ok((kept_a, kept_b)) => record(0, whose, kept_a, kept_b),
+                Err(refusal) => record(refusal.number(), whose, Point { x: 0.0, y: 0.0 }, Point { x: 0.0, y: 0.0 }),
             };
             assert_eq!(written, expected);
             edges += 1;
@@ -197,19 +203,20 @@ fn shown(answer: Result<impl Shown, Refusal>) -> String {
 fn walk(a: &mut Arguments) -> (Result<usize, Refusal>, Vec<u8>) {
     let (face, from, target, to, normal) = (a.take(), a.take(), a.take(), a.take(), a.take());
     let mut bytes = vec![0xa5; a.take::<u64>().min(400) as usize];
-    (edge_clipping::walk(face, from, target, to, normal, &mut bytes), bytes)
+    (edge_clipping::walk(face, from, target, to, normal, a.take(), &mut bytes), bytes)
 }
 
-/// The trace's answer, and its buffer after it.
+/// The trace's answer, and its buffer after it. Its number stands after all the floats that a request has room for.
 fn trace(a: &mut Arguments) -> (Result<Counts, Refusal>, Vec<u8>) {
     let (floats, length, window): (u64, u64, Rect) = (a.take(), a.take(), a.take());
-    let samples: Vec<f64> = (0..floats.min(16)).map(|_| a.take()).collect();
+    let samples: [f64; FLOATS] = array::from_fn(|_| a.take());
+    let samples = &samples[..floats.min(FLOATS as u64) as usize];
     let mut bytes = vec![0xa5; length.min(400) as usize];
-    (cut_trace(&samples, window, &mut bytes), bytes)
+    (cut_trace(samples, window, a.take(), &mut bytes), bytes)
 }
 
-fn record(first: u8, a: Point, b: Point) -> Vec<u8> {
+fn record(first: u8, whose: u32, a: Point, b: Point) -> Vec<u8> {
     let floats = [a.x, a.y, b.x, b.y];
     let floats = floats.iter().flat_map(|float| float.to_le_bytes());
-    [first, 0, 0, 0, 0, 0, 0, 0].into_iter().chain(floats).collect()
+    [first, 0, 0, 0].into_iter().chain(whose.to_le_bytes()).chain(floats).collect()
 }

@@ -46,6 +46,13 @@ impl Argument for u8 {
     }
 }
 
+/// A trace number: the word modulo 2^32.
+impl Argument for u32 {
+    fn taken(from: &mut Arguments) -> u32 {
+        from.take::<u64>() as u32
+    }
+}
+
 impl Argument for Axis {
     fn taken(from: &mut Arguments) -> Axis {
         if from.take() {

@@ -1,9 +1,9 @@
 /* Writes the byte before what it is lent. */
 #include "wrapped.h"
 
-umb_trace_answer __wrap_umb_cut_trace(const double *samples, size_t samples_length, umb_rect window, uint8_t *out,
-                                      size_t out_length)
+umb_trace_answer __wrap_umb_cut_trace(const double *samples, size_t samples_length, umb_rect window, uint32_t whose,
+                                      uint8_t *out, size_t out_length)
 {
     out[-1] = 0;
-    return __real_umb_cut_trace(samples, samples_length, window, out, out_length);
+    return __real_umb_cut_trace(samples, samples_length, window, whose, out, out_length);
 }

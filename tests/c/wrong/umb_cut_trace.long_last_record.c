@@ -1,10 +1,10 @@
 /* Writes another last record where the trace is long. */
 #include "wrapped.h"
 
-umb_trace_answer __wrap_umb_cut_trace(const double *samples, size_t samples_length, umb_rect window, uint8_t *out,
-                                      size_t out_length)
+umb_trace_answer __wrap_umb_cut_trace(const double *samples, size_t samples_length, umb_rect window, uint32_t whose,
+                                      uint8_t *out, size_t out_length)
 {
-    const umb_trace_answer a = __real_umb_cut_trace(samples, samples_length, window, out, out_length);
+    const umb_trace_answer a = __real_umb_cut_trace(samples, samples_length, window, whose, out, out_length);
     if (a.edges == 4095)
         out[40 * a.edges - 1] ^= 1;
     return a;

@@ -1,9 +1,9 @@
 /* Says that a trace is done where nothing is lent for it. */
 #include "wrapped.h"
 
-umb_trace_answer __wrap_umb_cut_trace(const double *samples, size_t samples_length, umb_rect window, uint8_t *out,
-                                      size_t out_length)
+umb_trace_answer __wrap_umb_cut_trace(const double *samples, size_t samples_length, umb_rect window, uint32_t whose,
+                                      uint8_t *out, size_t out_length)
 {
-    const umb_trace_answer a = __real_umb_cut_trace(samples, samples_length, window, out, out_length);
+    const umb_trace_answer a = __real_umb_cut_trace(samples, samples_length, window, whose, out, out_length);
     return out_length == 0 && a.number == UMB_SHORT_BUFFER ? (umb_trace_answer){.number = UMB_DONE} : a;
 }

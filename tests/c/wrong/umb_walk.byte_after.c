@@ -1,10 +1,10 @@
 /* Writes the byte after what it is lent, if that is not nothing. */
 #include "wrapped.h"
 
-umb_walk_answer __wrap_umb_walk(uint8_t face, umb_uv a, uint8_t target, umb_uv b, umb_vector normal, uint8_t *out,
-                                size_t out_length)
+umb_walk_answer __wrap_umb_walk(uint8_t face, umb_uv a, uint8_t target, umb_uv b, umb_vector normal, uint32_t whose,
+                                uint8_t *out, size_t out_length)
 {
     if (out_length > 0)
         out[out_length] = 0;
-    return __real_umb_walk(face, a, target, b, normal, out, out_length);
+    return __real_umb_walk(face, a, target, b, normal, whose, out, out_length);
 }

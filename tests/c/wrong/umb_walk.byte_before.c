@@ -1,9 +1,9 @@
 /* Writes the byte before what it is lent. */
 #include "wrapped.h"
 
-umb_walk_answer __wrap_umb_walk(uint8_t face, umb_uv a, uint8_t target, umb_uv b, umb_vector normal, uint8_t *out,
-                                size_t out_length)
+umb_walk_answer __wrap_umb_walk(uint8_t face, umb_uv a, uint8_t target, umb_uv b, umb_vector normal, uint32_t whose,
+                                uint8_t *out, size_t out_length)
 {
     out[-1] = 0;
-    return __real_umb_walk(face, a, target, b, normal, out, out_length);
+    return __real_umb_walk(face, a, target, b, normal, whose, out, out_length);
 }

@@ -6,16 +6,13 @@ use Rattle.record.proofs.put_record.Statement.{statement}
 use Rattle.record.proofs.put_record.Tie as tie
 
 returns : tie.Need-returns
-returns c = let a = c .before .before .args in words-not (a .out .now) (a .at) _ _ _ _ _ _ (omega arith)
+returns c = let a = c .before .before .args in words-not (a .out .now) (a .at) _ _ _ _ _ (omega arith)
 
 sub-if2 : tie.Need-sub-if2
 sub-if2 c = search needs
 
 returns-2 : tie.Need-returns-2
-returns-2 c = let a = c .before .before .before .args in words-not (a .out .now) (a .at) _ _ _ _ _ _ (omega arith)
-
-head-requires : tie.Need-head-requires
-head-requires c κs = search needs
+returns-2 c = let a = c .before .before .before .args in words-not (a .out .now) (a .at) _ _ _ _ _ (omega arith)
 
 put-word-requires : tie.Need-put-word-requires
 put-word-requires c κs = search needs
@@ -54,9 +51,8 @@ returns-3 c =
     let k3 = k4 .before .before .before .before in
     let k2 = k3 .before .before .before .before in
     let k1 = k2 .before .before .before .before in
-    let h = k1 .before in
-    let a = h .before .before .before .before .before .args in
-    words-are (a .out .now) (a .at) _ _ _ _ _ _ _ _ _ _ _ _ (h .head .ensures) (omega arith)
+    let a = k1 .before .before .before .before .before .args in
+    words-are (a .out .now) (a .at) _ _ _ _ _ _ _ _ _ _ (omega arith)
     (k1 .put-word .ensures) (k2 .put-word2 .ensures) (k3 .put-word3 .ensures) (k4 .put-word4 .ensures) (k5 .put-word5 .ensures)
 
 pub put-record-spec : {M : Type 1} → statement M
@@ -66,7 +62,6 @@ put-record-spec =
     returns
     sub-if2
     returns-2
-    head-requires
     put-word-requires
     add-put-word
     put-word-requires-2

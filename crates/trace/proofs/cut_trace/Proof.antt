@@ -14,7 +14,7 @@ no-edges-requires : tie.Need-no-edges-requires
 no-edges-requires c κs = search needs
 
 returns : tie.Need-returns
-returns c = let (r, b) = refused _ _ _ _ _ (c .before .before .trace .ensures) (c .before .if1 .taken) refl in (c .no-edges .ensures ∙ r, b)
+returns c = let (r, b) = refused _ _ _ _ _ _ (c .before .before .trace .ensures) (c .before .if1 .taken) refl in (c .no-edges .ensures ∙ r, b)
 
 edge-count-requires : tie.Need-edge-count-requires
 edge-count-requires c κs = search needs
@@ -37,7 +37,7 @@ same-length c = search needs
 returns-2 : tie.Need-returns-2
 returns-2 c =
     let p = c .before .before .put-records .ensures in
-    cut _ _ _ _ _ (c .before .before .before .before .before .before .trace .ensures) (c .before .before .before .before .before .if1 .left) _ (c .before .before .before .before .edge-count .ensures) _ (p .0) _ (p .1) refl
+    cut _ _ _ _ _ _ (c .before .before .before .before .before .before .trace .ensures) (c .before .before .before .before .before .if1 .left) _ (c .before .before .before .before .edge-count .ensures) _ (p .0) _ (p .1) refl
 
 pub cut-trace-spec : {M : Type 1} → statement M
 cut-trace-spec =

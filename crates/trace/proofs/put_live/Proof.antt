@@ -11,10 +11,10 @@ use Rattle.trace.proofs.put_live.Statement.{statement}
 use Rattle.trace.proofs.put_live.Tie as tie
 
 abbrev Inv-loop : tie.InvT-loop
-Inv-loop samples window out₀ at₀ out at = Onward samples window out₀ at₀ out at
+Inv-loop samples window whose out₀ at₀ out at = Onward whose samples window out₀ at₀ out at
 
 abbrev μ-loop : tie.MeasureT-loop
-μ-loop samples window out₀ at₀ out at = length samples - at .k
+μ-loop samples window whose out₀ at₀ out at = length samples - at .k
 
 loop-holds : tie.Need-loop-holds Inv-loop μ-loop
 loop-holds c = sets-out _ (c .before .before .pre)

@@ -1,6 +1,7 @@
 -- `put_segment` is the record of the segment: its points' bits are those of no NaN.
 use borrow.Author.Needs.{needs}
-use Rattle.record.specs.Record.{recordBytes}
+use Rattle.record.specs.Record.{endBytes}
+use Rattle.record.specs.Inner.{withHead, headed}
 use Rattle.walk.proofs.put_segment.Statement.{statement}
 use Rattle.walk.proofs.put_segment.Tie as tie
 
@@ -23,7 +24,7 @@ same-length : tie.Need-same-length
 same-length c = search needs
 
 returns : tie.Need-returns
-unfolding recordBytes
+unfolding headed withHead endBytes
 returns c = c .before .before .put-record .ensures
 
 pub put-segment-spec : {M : Type 1} → statement M

@@ -4,7 +4,7 @@ use native.Mathlib.Omega.{arith}
 use borrow.Author.Needs.{needs}
 use Rattle.cube.specs.Vector.{HandedIn}
 use Rattle.walk.proofs.Admitted.{fine}
-use Rattle.walk.proofs.Exits.{aside-holds, aside-taken, by-input, by-stop, by-short, by-done}
+use Rattle.walk.proofs.Exits.{at-most-eight, aside-holds, aside-taken, by-input, by-stop, by-short, by-done}
 use Rattle.walk.proofs.walk.Statement.{statement}
 use Rattle.walk.proofs.walk.Tie as tie
 
@@ -16,7 +16,7 @@ input-requires : tie.Need-input-requires
 input-requires c κs = search needs
 
 returns : tie.Need-returns
-returns c = by-input _ _ _ _ _ _ _ _ (c .before .input .ensures) (c .if1 .taken) refl
+returns c = by-input _ _ _ _ _ _ _ _ _ (c .before .input .ensures) (c .if1 .taken) refl
 
 slice-aggregate-put-segments : tie.Need-slice-aggregate-put-segments
 slice-aggregate-put-segments c = refl
@@ -33,39 +33,41 @@ returns-2 : tie.Need-returns-2
 returns-2 c =
     let w = c .before .before .before in
     let i = w .before .before in
-    by-stop _ _ _ _ _ _ _ _ (i .before .input .ensures) _ (w .put-segments .ensures .0) (i .if1 .left) (c .if2 .taken) refl
+    by-stop _ _ _ _ _ _ _ _ _ (i .before .input .ensures) _ (w .put-segments .ensures .0) (i .if1 .left) (c .if2 .taken) refl
+
+mul-bytes : tie.Need-mul-bytes
+mul-bytes c =
+    let w = c .before .before .before .before in
+    let h = w .before .before .before .before .before .args in
+    omega (arith, at-most-eight (h .face) (h .a) (h .target) (h .b) (h .normal) (h .whose) _ (w .put-segments .ensures .0) (c .before .if2 .left))
 
 returns-3 : tie.Need-returns-3
 returns-3 c =
     let d = c .before .before in
     let w = d .before .before .before in
     let i = w .before .before in
-    by-short _ _ _ _ _ _ _ _ (i .before .input .ensures) _ (w .put-segments .ensures .0) (i .if1 .left) (d .if2 .left) (c .if3 .taken) refl
+    by-short _ _ _ _ _ _ _ _ _ (i .before .input .ensures) _ (w .put-segments .ensures .0) (i .if1 .left) (d .if2 .left) (omega arith) refl
 
 slice-aggregate-copy : tie.Need-slice-aggregate-copy
 slice-aggregate-copy c = search needs
 
-mul-copy : tie.Need-mul-copy
-mul-copy c = search needs
-
 copy-requires : tie.Need-copy-requires
 copy-requires c κs =
-    let d = c .before .before .before .before .before in
+    let d = c .before .before .before .before in
     let w = d .before .before .before in
-    (search needs, aside-holds _ _ _ _ _ _ (w .put-segments .ensures .0) (d .if2 .left) _ _ (omega arith) (w .put-segments .ensures .1))
+    (search needs, aside-holds _ _ _ _ _ _ _ (w .put-segments .ensures .0) (d .if2 .left) _ _ (omega arith) (w .put-segments .ensures .1))
 
 same-length : tie.Need-same-length
 same-length c = search needs
 
 returns-4 : tie.Need-returns-4
 returns-4 c =
-    let e = c .before .before .before .before .before .before in
-    let d = e .before .before in
+    let d = c .before .before .before .before .before .before .before in
     let w = d .before .before .before in
     let i = w .before .before in
     let g = w .put-segments .ensures .0 in
-    let t = aside-taken _ _ _ _ _ _ g (d .if2 .left) _ _ (omega arith) (w .put-segments .ensures .1) in
-    by-done _ _ _ _ _ _ _ _ (i .before .input .ensures) _ g (i .if1 .left) (d .if2 .left) (omega arith) _ t (c .before .before .copy .ensures)
+    let t = aside-taken _ _ _ _ _ _ _ g (d .if2 .left) _ _ (omega arith) (w .put-segments .ensures .1) in
+    by-done _ _ _ _ _ _ _ _ _ (i .before .input .ensures) _ g (i .if1 .left) (d .if2 .left) (omega arith) _ t (c .before .before .copy .ensures)
 
 pub walk-spec : {M : Type 1} → statement M
 walk-spec =
@@ -76,9 +78,9 @@ walk-spec =
     slice-aggregate-put-segments
     put-segments-requires
     returns-2
+    mul-bytes
     returns-3
     slice-aggregate-copy
-    mul-copy
     copy-requires
     same-length
     returns-4)

@@ -15,6 +15,9 @@ word-up-to-requires c κs = search needs
 rect-at-requires : tie.Need-rect-at-requires
 rect-at-requires c κs = search needs
 
+whose-at-requires : tie.Need-whose-at-requires
+whose-at-requires c κs = search needs
+
 array-share-prefix-floats : tie.Need-array-share-prefix-floats
 array-share-prefix-floats c = search needs
 
@@ -36,7 +39,7 @@ same-length-2 c = search needs
 returns : tie.Need-returns
 returns c =
     let t = c .before .before .before .before .before .before .before .cut-trace .ensures in
-    let e = trace-line _ _ _ _ _ _ _ (c .before .before .before .before .before .before .before .before .before .before .before .before .floats-of .ensures) (c .before .before .before .before .before .before .before .before .before .before .before .word-up-to .ensures .0) (c .before .before .before .before .before .before .before .before .before .before .rect-at .ensures) (t .0) (t .1) in
+    let e = trace-line _ _ _ _ _ _ _ _ (c .before .before .before .before .before .before .before .before .before .before .before .before .before .floats-of .ensures) (c .before .before .before .before .before .before .before .before .before .before .before .before .word-up-to .ensures .0) (c .before .before .before .before .before .before .before .before .before .before .before .rect-at .ensures) (c .before .before .before .before .before .before .before .before .before .before .whose-at .ensures) (t .0) (t .1) in
     same-line _ _ _ _ _ _ 873 e (c .before .before .put-traced .ensures)
 
 pub put-trace-on-spec : {M : Type 1} → statement M
@@ -46,6 +49,7 @@ put-trace-on-spec =
     floats-of-requires
     word-up-to-requires
     rect-at-requires
+    whose-at-requires
     array-share-prefix-floats
     slice-aggregate-cut-trace
     cut-trace-requires

@@ -20,6 +20,9 @@ uv-at-requires-2 c κs = search needs
 vector-at-requires : tie.Need-vector-at-requires
 vector-at-requires c κs = search needs
 
+whose-at-requires : tie.Need-whose-at-requires
+whose-at-requires c κs = search needs
+
 walk-requires : tie.Need-walk-requires
 walk-requires c κs = search needs
 
@@ -35,7 +38,7 @@ same-length-2 c = search needs
 returns : tie.Need-returns
 returns c =
     let w = c .before .before .before .before .before .before .before .walk .ensures in
-    let e = walk-line _ _ _ _ _ _ _ _ _ (c .before .before .before .before .before .before .before .before .before .before .before .before .before .number-at .ensures) (c .before .before .before .before .before .before .before .before .before .before .before .before .uv-at .ensures) (c .before .before .before .before .before .before .before .before .before .before .before .number-at2 .ensures) (c .before .before .before .before .before .before .before .before .before .before .uv-at2 .ensures) (c .before .before .before .before .before .before .before .before .before .vector-at .ensures) (w .0) (w .1) in
+    let e = walk-line _ _ _ _ _ _ _ _ _ _ (c .before .before .before .before .before .before .before .before .before .before .before .before .before .before .number-at .ensures) (c .before .before .before .before .before .before .before .before .before .before .before .before .before .uv-at .ensures) (c .before .before .before .before .before .before .before .before .before .before .before .before .number-at2 .ensures) (c .before .before .before .before .before .before .before .before .before .before .before .uv-at2 .ensures) (c .before .before .before .before .before .before .before .before .before .before .vector-at .ensures) (c .before .before .before .before .before .before .before .before .before .whose-at .ensures) (w .0) (w .1) in
     same-line _ _ _ _ _ _ 822 e (c .before .before .put-walked .ensures)
 
 pub put-walk-on-spec : {M : Type 1} → statement M
@@ -47,6 +50,7 @@ put-walk-on-spec =
     number-at-requires-2
     uv-at-requires-2
     vector-at-requires
+    whose-at-requires
     walk-requires
     put-walked-requires
     same-length

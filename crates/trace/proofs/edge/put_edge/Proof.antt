@@ -36,7 +36,7 @@ returns : tie.Need-returns
 returns c =
     let s = c .before .before .before .before .before .s .given in
     let e = sym (c .before .before .before .before .before .before .before .cut .ensures) ∙ s .1 in
-    (count-kept _ (c .before .before .before .before .before .before .before .before .before .args .kept) (s .0 .0) e, wrote _ _ _ _ _ _ (number-kept _ (s .0 .0) e) (ends-kept _ (s .0 .0) e) (c .before .before .put-kept .ensures))
+    (count-kept _ (c .before .before .before .before .before .before .before .before .before .args .kept) (s .0 .0) e, wrote _ _ _ _ _ _ _ (number-kept _ (s .0 .0) e) (ends-kept _ (s .0 .0) e) (c .before .before .put-kept .ensures))
 
 same-length-2 : tie.Need-same-length-2
 same-length-2 c = search needs
@@ -44,7 +44,7 @@ same-length-2 c = search needs
 returns-2 : tie.Need-returns-2
 returns-2 c =
     let e = sym (c .before .before .before .before .before .before .cut .ensures) ∙ c .before .before .before .before .enum-told .given .1 in
-    (count-missed _ (c .before .before .before .before .before .before .before .before .args .kept) e, wrote _ _ _ _ _ _ (number-missed _ e) (ends-missed _ e) (c .before .before .put-zeros .ensures))
+    (count-missed _ (c .before .before .before .before .before .before .before .before .args .kept) e, wrote _ _ _ _ _ _ _ (number-missed _ e) (ends-missed _ e) (c .before .before .put-zeros .ensures))
 
 same-length-3 : tie.Need-same-length-3
 same-length-3 c = search needs
@@ -53,7 +53,7 @@ returns-3 : tie.Need-returns-3
 returns-3 c =
     let n = c .before .before .before .before .before .n .given in
     let e = sym (c .before .before .before .before .before .before .before .cut .ensures) ∙ n .1 in
-    (count-refused _ (c .before .before .before .before .before .before .before .before .before .args .kept) (n .0 .0) e, wrote _ _ _ _ _ _ (number-refused _ (n .0 .0) e) (ends-refused _ (n .0 .0) e) (c .before .before .put-zeros2 .ensures))
+    (count-refused _ (c .before .before .before .before .before .before .before .before .before .args .kept) (n .0 .0) e, wrote _ _ _ _ _ _ _ (number-refused _ (n .0 .0) e) (ends-refused _ (n .0 .0) e) (c .before .before .put-zeros2 .ensures))
 
 pub put-edge-spec : {M : Type 1} → statement M
 put-edge-spec =

@@ -1,8 +1,14 @@
 -- `put_kept` is the record of kept points: their bits are those of no NaN.
-use Rattle.record.specs.Record.{recordBytes}
+use native.Mathlib.Omega.{arith}
+use Rattle.record.specs.Record.{endBytes}
+use Rattle.record.specs.Inner.{withHead, headed}
+use Rattle.record.proofs.Words.{record-placed}
 use borrow.Author.Needs.{needs}
 use Rattle.trace.proofs.edge.put_kept.Statement.{statement}
 use Rattle.trace.proofs.edge.put_kept.Tie as tie
+
+head-requires : tie.Need-head-requires
+head-requires c κs = search needs
 
 float-to-bits-put-record : tie.Need-float-to-bits-put-record
 float-to-bits-put-record c = search needs
@@ -23,13 +29,14 @@ same-length : tie.Need-same-length
 same-length c = search needs
 
 returns : tie.Need-returns
-unfolding recordBytes
-returns c = c .before .before .put-record .ensures
+unfolding headed withHead endBytes
+returns c = record-placed _ _ _ _ 0 _ _ (c .before .before .before .before .before .before .before .head .ensures) (omega arith) (c .before .before .put-record .ensures)
 
 pub put-kept-spec : {M : Type 1} → statement M
 put-kept-spec =
     tie.close
     (tie.spec
+    head-requires
     float-to-bits-put-record
     float-to-bits-put-record-2
     float-to-bits-put-record-3

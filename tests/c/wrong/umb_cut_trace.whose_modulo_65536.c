@@ -1,0 +1,8 @@
+/* Keeps half of the number. */
+#include "wrapped.h"
+
+umb_trace_answer __wrap_umb_cut_trace(const double *samples, size_t samples_length, umb_rect window, uint32_t whose,
+                                      uint8_t *out, size_t out_length)
+{
+    return __real_umb_cut_trace(samples, samples_length, window, whose & 0xffff, out, out_length);
+}
