@@ -190,19 +190,20 @@ fn asked() -> Asked {
     words::asked_by(&word[..n])
 }
 
+// Says what is wrong with the words, and ends.
+fn refuse(why: &[u8]) {
+    stream::end_refused(io::write_all(STDERR_FILENO, why));
+}
+
 fn main() {
     if 2 < os::arg_count() {
-        stream::end_refused(
-            b"trace: there is more than one word: a trace number is all that it takes\n",
-        );
+        refuse(b"trace: there is more than one word: a trace number is all that it takes\n");
         return;
     }
     match asked() {
         Asked::Number(whose) => run(whose),
-        Asked::NoNumber => {
-            stream::end_refused(
-                b"trace: the word is no trace number: ten digits at the most, up to 4294967295\n",
-            );
-        }
+        Asked::NoNumber => refuse(
+            b"trace: the word is no trace number: ten digits at the most, up to 4294967295\n",
+        ),
     }
 }

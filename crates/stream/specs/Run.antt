@@ -41,3 +41,7 @@ statusIf unread unwritten = when unread then 3 else when unwritten then 3 else 0
 
 abbrev pub statusOf : Run → ℕ
 statusOf r = statusIf (r .unread) (r .unwritten)
+
+-- 2 where a program is asked for what it does not do, and has said so; 3 where it could not
+unfoldable pub refusedStatus : Bool → ℕ
+refusedStatus said = when said then 2 else 3

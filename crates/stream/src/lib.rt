@@ -3,11 +3,10 @@
 //
 // No contract can say which bytes were read or written; what follows from the counts is under one.
 ghost use mathlib.Core.Path.{_≡_};
-ghost use mathlib.Core.Logic.{_⊎_};
 ghost use Prim.Native.Nat.{_≤_, _<_};
 ghost use Rattle.io.specs.Counts.{Counts};
 ghost use Rattle.buffer.specs.Text.{lineEnds};
-ghost use Rattle.stream.specs.Run.{answeredOf, wholeLines, begun, goesOn, withBlock, statusIf, statusOf};
+ghost use Rattle.stream.specs.Run.{answeredOf, wholeLines, begun, goesOn, withBlock, statusIf, statusOf, refusedStatus};
 use libc::STDERR_FILENO;
 
 // Where a program gives its status.
@@ -158,12 +157,12 @@ impl Run {
     }
 }
 
-// Ends a program that is asked for what it does not do: says so on standard error, and gives the status 2, or 3 where
-// that could not be said.
-pub fn end_refused(why: &[u8]) -> u8
-    ensures { λ r. ⌜ (r ≡ 2) ⊎ (r ≡ 3) ⌝ }
+// Ends a program that is asked for what it does not do, and has said so on standard error: gives the status 2, or 3
+// where that could not be said.
+pub fn end_refused(said: bool) -> u8
+    ensures { λ r. ⌜ r ≡ refusedStatus said ⌝ }
 {
-    if io::write_all(STDERR_FILENO, why) {
+    if said {
         give(2);
         return 2;
     }
