@@ -47,6 +47,17 @@ static void put_record(uint8_t *record, umb_cut cut, uint32_t whose) {
     __builtin_memcpy(record + 24, &cut.b, 16);
 }
 
+/* Whether two numbers differ, neither a NaN: one comparison and one jump, where != takes a jump more. */
+static bool differ(double x, double y) {
+    return (x < y) | (y < x);
+}
+
+/* Whether the edge with these ends only touches the window: both kept points are the same, though the ends differ. */
+static bool only_touches(const double *ends, const umb_cut *cut) {
+    if (cut->number != UMB_DONE || differ(cut->a.x, cut->b.x) || differ(cut->a.y, cut->b.y)) return false;
+    return differ(ends[0], ends[2]) || differ(ends[1], ends[3]);
+}
+
 /* A whole trace with a call for each edge, as it is done where there is no function for it. It refuses no trace: the
  * crate's function refuses each edge by itself, the window with it. */
 static umb_trace_answer crate_edge_by_edge(const double *samples, size_t samples_length, umb_rect window,
@@ -55,9 +66,14 @@ static umb_trace_answer crate_edge_by_edge(const double *samples, size_t samples
     for (size_t i = 0; i + 3 < samples_length && out_length >= RECORD_BYTES; i += 2) {
         const double *ends = samples + i;
         umb_cut cut = crate_clip_edge((umb_point){ends[0], ends[1]}, (umb_point){ends[2], ends[3]}, window);
-        put_record(out, cut, whose);
-        counted.kept += cut.number == UMB_DONE;
-        counted.missed += cut.number == UMB_MISSED;
+        if (only_touches(ends, &cut)) {
+            put_record(out, (umb_cut){.number = UMB_MISSED}, whose);
+            counted.missed++;
+        } else {
+            put_record(out, cut, whose);
+            counted.kept += cut.number == UMB_DONE;
+            counted.missed += cut.number == UMB_MISSED;
+        }
         counted.edges++;
         out += RECORD_BYTES;
         out_length -= RECORD_BYTES;
@@ -74,6 +90,7 @@ static const struct contestant {
     trace_function *trace;
 } contestants[] = {
     {"ours", umb_clip_edge, umb_intersects_face, umb_walk, umb_cut_trace},
+    {"with-touches", 0, 0, 0, umb_cut_trace_with_touches},
     {"crate", crate_clip_edge, crate_intersects_face, crate_walk, crate_edge_by_edge},
     {"loop", 0, 0, 0, crate_cut_trace},
     {"s2", s2_clip_edge, 0, 0, 0},
@@ -117,6 +134,9 @@ static const struct input {
     {"whole-across", .sample = across},
     {"whole-corners", .sample = round_corners},
     {"whole-dead", .sample = dead},
+    {"whole-touching", .sample = touching},
+    {"whole-past-a-corner", .sample = past_a_corner},
+    {"whole-upright", .sample = upright},
 };
 enum { INPUTS = sizeof inputs / sizeof inputs[0], LINE = 4 };
 

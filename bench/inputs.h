@@ -141,6 +141,28 @@ static umb_point across(size_t i, size_t count) {
     return beyond(i % 2 * 2 + i / 8 % 2, past, between(0.0, 1.0));
 }
 
+/* On a side and beyond it in turn, each eighth sample at a corner, and after eight samples the next side: the edges
+ * only touch the window, but for the few from one side to the next. */
+static umb_point touching(size_t i, size_t count) {
+    (void)count;
+    double past = between(0.01, 1.0), along = between(0.0, 1.0);
+    return beyond(i / 8 % 4, i % 2 == 0 ? 0.0 : past, i % 8 == 0 ? 0.0 : along);
+}
+
+/* From one side of a corner to the other, so that the edge touches the window at the corner alone: x + y = 0, and all
+ * of it is exact in binary. */
+static umb_point past_a_corner(size_t i, size_t count) {
+    (void)count;
+    double far = (double)(1 + next_number() % 64) / 64.0;
+    return i % 2 == 0 ? (umb_point){far, -far} : (umb_point){-far, far};
+}
+
+/* Up and down in the window: time stands still. */
+static umb_point upright(size_t i, size_t count) {
+    (void)i, (void)count;
+    return (umb_point){0.5, between(0.0, 1.0)};
+}
+
 /* A coordinate is NaN, an infinity or the float above 2^500. */
 static umb_point dead(size_t i, size_t count) {
     static const double refused[] = {__builtin_nan(""), __builtin_inf(), -__builtin_inf(), 0x1.0000000000001p500};

@@ -59,16 +59,27 @@ fn cut_edges(samples: &[CPoint], window: Rect, whose: u32, out: &mut [[u8; RECOR
         }
         let end = live_until(samples, at + 2);
         for (ends, place) in samples[at..end].windows(2).zip(&mut out[at..]) {
-            if let (a, b, true) = clip_edge(ends[0].into(), ends[1].into(), window.clone()) {
-                *place = record(DONE, whose, a, b);
-                kept += 1;
-            } else {
-                *place = no_points(MISSED, whose);
+            match clip_edge(ends[0].into(), ends[1].into(), window.clone()) {
+                (a, b, true) if !only_touches(ends, a, b) => {
+                    *place = record(DONE, whose, a, b);
+                    kept += 1;
+                }
+                _ => *place = no_points(MISSED, whose),
             }
         }
         at = end - 1;
     }
     CTraceAnswer { number: DONE, kept, missed: edges - kept - refused, refused, edges }
+}
+
+/// Change request W10: both kept points are the same, though the edge's own ends are not.
+fn only_touches(ends: &[CPoint], a: Point, b: Point) -> bool {
+    !differ(a.x, b.x) && !differ(a.y, b.y) && (differ(ends[0].x, ends[1].x) || differ(ends[0].y, ends[1].y))
+}
+
+/// Of two numbers, neither a NaN: one comparison and one jump, where `!=` takes a jump more.
+fn differ(x: f64, y: f64) -> bool {
+    (x < y) | (y < x)
 }
 
 /// The first sample from this one on that is dead, or the end: eight at a time, then one by one.

@@ -3,8 +3,8 @@
  * Every function answers every input: NaN, infinities, empty windows, faces above 5 and short buffers get a number,
  * and nothing traps. An answer is a struct whose first member is that number. Beside any number but UMB_DONE all its
  * other members are zeros (no, face 0, axis U). Nothing is kept between calls, so every function may be called from any
- * thread. Only umb_walk and umb_cut_trace are lent memory, and what they leave there is said at "a record"; all other
- * arguments are taken by value, and no other function writes anywhere but its answer.
+ * thread. Only umb_walk, umb_cut_trace and umb_cut_trace_with_touches are lent memory, and what they leave there is
+ * said at "a record"; all other arguments are taken by value, and no other function writes anywhere but its answer.
  *
  * All floats are IEEE 754 binary64, round to nearest, ties to even, which is how a C program starts: a caller that has
  * set another rounding, or flushes subnormals to zero, sets that back before a call. A bool holds 0 or 1. Where finite
@@ -26,7 +26,7 @@ extern "C" {
 
 enum {
     UMB_DONE = 0,         /* kept, or done */
-    UMB_MISSED = 1,       /* no part in the window; a vector not on the side of the asked face */
+    UMB_MISSED = 1,       /* no part in the window, or in a trace a touch; a vector not on the asked face's side */
     UMB_NOT_FINITE = 2,   /* a float other than the window's is not finite or, in cutting, beyond 2^500 */
     UMB_BAD_WINDOW = 3,   /* a window side is not finite or beyond 2^500, or lo > hi on an axis */
     UMB_BAD_FACE = 4,     /* a face above 5, an axis above 2, a direction above 1 */
@@ -220,7 +220,7 @@ umb_interval_answer umb_update_endpoint(umb_interval bound, bool high_endpoint, 
  * from 0 to 500. Beyond a and b it may be infinite; it is no NaN. 2 or 0. */
 umb_real umb_interpolate(double x, double a, double b, double a1, double b1);
 
-/* ---- a record: 40 bytes, written by umb_cut_trace for each edge and by umb_walk for each segment
+/* ---- a record: 40 bytes, written for each edge of a trace and by umb_walk for each segment
  *
  *     byte 0           the number of the edge's answer, 0, 1 or 2; of a segment, its face
  *     bytes 1 to 3     zeros
@@ -236,13 +236,28 @@ umb_real umb_interpolate(double x, double a, double b, double a1, double b1);
 
 /* Every edge of a trace, from each sample to the next, cut to the window as umb_clip_edge cuts it: a record for each,
  * and how many of them were kept, missed and refused, and how many there are. A dead sample is 2 in the records of the
- * edges that touch it, and nowhere else; no sample or one has no edge. So a trace cut at a sample, which is sent in
- * both parts, gives the same records under the same number. An edge between live samples is kept where one of them lies
- * in the window, with that one as it was. Of these numbers: 10, 3, 8, 0. samples has samples_length floats, x and y in
- * turn, and out has out_length bytes; either length may be 0, neither pointer is null, and the two do not overlap. The
- * samples are only read. */
+ * edges that have it for an end, and nowhere else; no sample or one has no edge. So a trace cut at a sample, which is
+ * sent in both parts, gives the same records under the same number. Of these numbers: 10, 3, 8, 0. samples has
+ * samples_length floats, x and y in turn, and out has out_length bytes; either length may be 0, neither pointer is
+ * null, and the two do not overlap. The samples are only read.
+ *
+ * An edge that only touches the window would show as a dot, so it is 1 in its record and counts as missed: one of
+ * which umb_clip_edge keeps a single point (both kept points compare equal), though its own ends differ. Every other
+ * edge is as umb_clip_edge answers it; so no kept record shows a single point unless both its samples are that point,
+ * and an edge between live samples of which one lies in the window is kept, with that one as it was, unless it only
+ * touches.
+ *     - An edge that only ends on a side of the window, its other end beyond that side, is dropped.
+ *     - A window of no width or no height drops every edge that crosses it.
+ *     - A search for the page that a trace is on asks with touches: a page that it finds may then draw nothing.
+ * What decides is the kept points as they come out: where an edge runs so nearly along a side, or passes a corner so
+ * nearly, that rounding leaves it two points that differ, it is kept. */
 umb_trace_answer umb_cut_trace(const double *samples, size_t samples_length, umb_rect window, uint32_t whose,
                                uint8_t *out, size_t out_length);
+/* The same, but that an edge which only touches the window is kept, as umb_clip_edge keeps it: an edge between live
+ * samples is kept where one of them lies in the window, with that one as it was. Its counts are those of umb_cut_trace
+ * with the edges that only touch among the kept and not among the missed. */
+umb_trace_answer umb_cut_trace_with_touches(const double *samples, size_t samples_length, umb_rect window,
+                                            uint32_t whose, uint8_t *out, size_t out_length);
 
 /* ---- the six faces of the cube */
 

@@ -3,10 +3,11 @@
 use crate::number::{Answer, DONE, NO_SUCH_OPERATION};
 use crate::r2::rect::Rect;
 use crate::stream::{answer_records, hex, words, write_line};
+use crate::trace::{cut_trace, Touches};
 use crate::whose::Whose;
 use crate::words::{shown, Arguments};
 use crate::zeros::settle;
-use crate::{clip, cube, line, plane, trace, walk};
+use crate::{clip, cube, line, plane, walk};
 use std::io::{self, Write};
 
 /// Words of a request: the operation, then its arguments.
@@ -37,7 +38,8 @@ pub fn answer(request: &[u64; REQUEST], whose: Whose, output: &mut impl Write) -
     let (operation, arguments) = (request[0], &request[1..]);
     match operation {
         60 => return write_walk(&mut Arguments::new(arguments), output),
-        61 => return write_trace(whose, &mut Arguments::new(arguments), output),
+        61 => return write_trace(whose, Touches::Dropped, &mut Arguments::new(arguments), output),
+        62 => return write_trace(whose, Touches::Kept, &mut Arguments::new(arguments), output),
         _ => {}
     }
     let mut answer = results(operation, whose, &mut Arguments::new(arguments));
@@ -118,12 +120,12 @@ fn write_walk(a: &mut Arguments, output: &mut impl Write) -> io::Result<()> {
 }
 
 /// There is room for all floats, read or not, and the trace number stands after it.
-fn write_trace(whose: Whose, a: &mut Arguments, output: &mut impl Write) -> io::Result<()> {
+fn write_trace(whose: Whose, touches: Touches, a: &mut Arguments, output: &mut impl Write) -> io::Result<()> {
     let (count, length, window): (u64, u64, Rect) = (a.take(), a.take(), a.take());
     let floats: [f64; FLOATS] = std::array::from_fn(|_| a.take());
     let samples = &floats[..count.min(FLOATS as u64) as usize];
     let trace_number = a.take();
-    write_lent(output, length, |buffer| trace::cut_trace(whose, samples, &window, trace_number, buffer))
+    write_lent(output, length, |buffer| cut_trace(whose, touches, samples, &window, trace_number, buffer))
 }
 
 /// The line of a call that is lent a buffer shows its counts and the whole buffer, whatever the number: what was

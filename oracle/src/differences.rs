@@ -5,7 +5,7 @@ mod cube;
 mod overflow;
 
 use crate::clamped::CLAMPED;
-use crate::kept::{KEPT, LEFT_OUT};
+use crate::kept::{KEPT, LEFT_OUT, W10};
 use crate::r1::interval::Interval;
 use crate::r2::{point::Point, rect::Rect};
 use crate::s2::edge_clipping::private::{self, Cut, CRATES};
@@ -14,7 +14,7 @@ use crate::words::Arguments;
 
 /// The arguments of all requests that keep an entry, one for each of these operations.
 fn asked<const COUNT: usize>(name: &str, operations: [u64; COUNT]) -> [Arguments<'static>; COUNT] {
-    let kept: Vec<_> = KEPT.iter().filter(|(entry, _, _)| *entry == name).collect();
+    let kept: Vec<_> = KEPT.iter().chain(W10).filter(|(entry, _, _)| *entry == name).collect();
     assert_eq!(kept.iter().map(|(_, operation, _)| *operation).collect::<Vec<_>>(), operations, "{name}");
     std::array::from_fn(|place| Arguments::new(kept[place].2))
 }
@@ -248,4 +248,16 @@ fn d33_an_edge_that_vanishes() {
     let (step, past) = (f64::from_bits(1), 0.04f64.next_up());
     assert_eq!(ask(&CRATES), (past, None, [past, 1.0], None));
     assert_eq!(ask(&CLAMPED), (0.04, Some([5.0 * step, 0.04, 10.0 * step, 0.04]), [0.04, 1.0], None));
+}
+
+/// Each edge is asked twice, by 61 and by 62.
+#[test]
+fn d34_an_edge_that_only_touches() {
+    let kept = asked("D34", [61, 62, 61, 62, 61, 62, 61, 62]).map(|mut a| {
+        let (_, _, window): (u64, u64, Rect) = (a.take(), a.take(), a.take());
+        let (kept_a, kept_b, kept) = (CRATES.clip_edge)(a.take(), a.take(), window);
+        kept.then_some([kept_a.x, kept_a.y, kept_b.x, kept_b.y])
+    });
+    let [corner, side, crossing, of_no_length] = [[1.0; 4], [1.0, 1.5, 1.0, 1.5], [1.0; 4], [1.5; 4]].map(Some);
+    assert_eq!(kept, [corner, corner, side, side, crossing, crossing, of_no_length, of_no_length]);
 }

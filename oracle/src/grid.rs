@@ -11,7 +11,7 @@ use std::io::{self, BufWriter, Write};
 /// float above it, W their opposites. For a trace: C counts of floats, S six of them; R lengths about whole records, T
 /// about two, E exactly two; d floats of live and dead samples; a digit that float, 0 also face 0. N trace numbers, in
 /// short grids of their own; in the others the number is 0.
-const GRID: [(u64, &str); 60] = [
+const GRID: [(u64, &str); 62] = [
     (1, "xxxx"),
     (2, "xxxx"),
     (3, "xxx"),
@@ -72,6 +72,8 @@ const GRID: [(u64, &str); 60] = [
     (61, "SEhhhhhhhhhh"),
     (61, "SEWWwwwwwwww"),
     (61, "CRe0120031132202133120N"),
+    (62, "SEh1hhhhhhhh"),
+    (62, "CRe0120031132202133120N"),
 ];
 
 /// Operations up to this one are also asked with all arguments zero, listed or not.

@@ -1,11 +1,13 @@
 //! `oracle kept`: the requests that keep docs/DIFFERENCES.md, each entry's smallest inputs as the answering program
 //! takes them. They are the head of the stored list, so that a request's place here, from 1, is its place there. They
-//! go by the names of the entries: a new entry moves none.
+//! go by the names of the entries: a new entry moves none. Since W10 no request of the list moves: those that came with
+//! it stand after all that was there before (`oracle kept W10`).
 
 use crate::answers::request;
 use crate::clip::LIMIT;
 use crate::floats::power;
 use crate::stream::write_words;
+use crate::walk::RECORD;
 use std::io;
 
 /// An entry's name, the operation, its words.
@@ -96,6 +98,19 @@ pub const KEPT: &[Kept] = &[
     ("D11", 30, &floats([STEP, 0.0, 3.0 * STEP, 0.0, 0.5])),
 ];
 
+/// Those that came with W10: each trace is one edge in a buffer for its record, asked by 61 and by 62.
+#[rustfmt::skip]
+pub const W10: &[Kept] = &[
+    ("D34", 61, &edge([0.0, 0.0, 1.0, 1.0], [1.0, 1.0, 2.0, 2.0])),
+    ("D34", 62, &edge([0.0, 0.0, 1.0, 1.0], [1.0, 1.0, 2.0, 2.0])),
+    ("D34", 61, &edge([0.0, 1.5, 1.0, 1.5], [1.0, 1.0, 2.0, 2.0])),
+    ("D34", 62, &edge([0.0, 1.5, 1.0, 1.5], [1.0, 1.0, 2.0, 2.0])),
+    ("D34", 61, &edge([0.0, 0.0, 2.0, 2.0], [1.0, 0.0, 1.0, 2.0])),
+    ("D34", 62, &edge([0.0, 0.0, 2.0, 2.0], [1.0, 0.0, 1.0, 2.0])),
+    ("D34", 61, &edge([1.5, 1.5, 1.5, 1.5], [1.0, 1.0, 2.0, 2.0])),
+    ("D34", 62, &edge([1.5, 1.5, 1.5, 1.5], [1.0, 1.0, 2.0, 2.0])),
+];
+
 /// Entries about what the port leaves out, so that no operation can keep them, and the words of their inputs.
 #[cfg(test)]
 pub const LEFT_OUT: &[(&str, &[u64])] =
@@ -115,7 +130,15 @@ const fn floats<const COUNT: usize>(values: [f64; COUNT]) -> [u64; COUNT] {
     words
 }
 
-pub fn run() -> io::Result<()> {
+/// A trace's words: the count of floats, the buffer's length, the window, the samples.
+const fn edge([ax, ay, bx, by]: [f64; 4], [low_x, low_y, high_x, high_y]: [f64; 4]) -> [u64; 10] {
+    let mut words = floats([0.0, 0.0, low_x, low_y, high_x, high_y, ax, ay, bx, by]);
+    words[0] = 4;
+    words[1] = RECORD as u64;
+    words
+}
+
+pub fn run(kept: &[Kept]) -> io::Result<()> {
     let mut output = io::stdout().lock();
-    KEPT.iter().try_for_each(|(_, operation, words)| write_words(&mut output, &request(*operation, words)))
+    kept.iter().try_for_each(|(_, operation, words)| write_words(&mut output, &request(*operation, words)))
 }

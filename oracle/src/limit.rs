@@ -6,7 +6,7 @@
 use crate::answers::{line_of, request, FLOATS, REQUEST};
 use crate::clip::{admitted, LIMIT};
 use crate::floats::power;
-use crate::operations::{is_limited, kinds, words_for, OPERATIONS};
+use crate::operations::{is_limited, is_trace, kinds, words_for, OPERATIONS};
 use crate::random::Random;
 use crate::records;
 use crate::requests::request_of;
@@ -52,7 +52,7 @@ fn see(seen: &mut Seen, request: &[u64; REQUEST]) {
     let line = line_of(request, Whose::Ours);
     let number: u64 = line.split_whitespace().next().and_then(|number| number.parse().ok()).expect("a number");
     // A trace without an edge shows nothing of its sample.
-    if request[0] == 61 && (number > 3 || floats.len() < 8) {
+    if is_trace(request[0]) && (number > 3 || floats.len() < 8) {
         return;
     }
     for (place, x) in floats {
@@ -80,10 +80,15 @@ fn must_have_all(seen: &Seen, operation: u64, what: &str) {
 
 #[test]
 fn requests_about_the_limit() {
-    for (operation, _, _) in OPERATIONS.into_iter().filter(|(operation, _, _)| is_limited(*operation)) {
+    let operations = OPERATIONS.map(|(operation, _, _)| operation).into_iter();
+    let limited: Vec<u64> = operations.filter(|operation| is_limited(*operation)).collect();
+    assert_eq!(limited, [30, 31, 32, 33, 34, 35, 61, 62]);
+    for operation in limited {
         let (mut random, mut seen) = (Random::new(1), Seen::new());
-        for _ in 0..ASKED {
-            see(&mut seen, &request_of(&mut random, operation));
+        // Half of those for 61 ask 62.
+        let requests = std::iter::repeat_with(|| request_of(&mut random, operation));
+        for request in requests.filter(|request| request[0] == operation).take(ASKED) {
+            see(&mut seen, &request);
         }
         must_have_all(&seen, operation, &format!("operation {operation}"));
     }

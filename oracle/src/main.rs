@@ -36,7 +36,12 @@ mod rules;
 mod same;
 mod samples;
 mod shapes;
+#[cfg(test)]
+mod stored;
 mod stream;
+#[cfg(test)]
+mod touches;
+mod touching;
 mod trace;
 #[cfg(test)]
 mod trace_numbers;
@@ -54,6 +59,7 @@ extern crate self as libm;
 
 use std::process::ExitCode;
 use std::{env, io};
+use trace::Touches;
 use whose::Whose;
 
 const USAGE: &str = "\
@@ -62,19 +68,24 @@ oracle crate-cut < RECORDS      the same from the crate alone, nothing refused: 
 oracle records KIND N SEED      N seeded records; KIND is bits or edges
 oracle trace < SAMPLES          a 40-byte record for each edge of a trace: a window, then samples, all floats of 8 bytes
 oracle trace NUMBER < SAMPLES   the same with this trace number in every record; else it is 0
+oracle trace [NUMBER] touches < SAMPLES
+                                the same with touches; else an edge that only touches the window is missed
 oracle samples N SEED           a window and N seeded samples
 oracle answers < REQUESTS       a line for each 192-byte request, as the answering program writes it
 oracle list < REQUESTS          the same as our definitions have it: zeros that the crate leaves open, and the clamp
 oracle requests N SEED          N seeded requests, every operation among them
 oracle lent N SEED              N seeded requests of the operations that write records
-oracle unnumbered < REQUESTS    these requests with 0 for a trace number
+oracle touching N SEED          N seeded requests of traces with many edges that only touch the window
+oracle before W10 < REQUESTS    these seeded requests as they were before W10, by 61 for 62; before W7, unnumbered too
 oracle past N SEED              searches N seeded requests for what the clamp changes; 1 when it is not as it has to be
 oracle past-requests N SEED     those requests
 oracle near N SEED              searches N seeded cuts for the value farthest from the line; 1 when that is too far
 oracle near N SEED RULE         the same of another rule: quotient-first, slope-first, farther-end or intercept
 oracle grid                     every request over short lists of words
-oracle kept                     the requests that keep docs/DIFFERENCES.md
-oracle same PROGRAM INPUT A B   compares two files that cut, answers or trace wrote for INPUT; 1 when they differ but by the clamp";
+oracle kept                     the requests that keep docs/DIFFERENCES.md, but for those that came with W10
+oracle kept W10                 those
+oracle same PROGRAM INPUT A B   compares two files that cut, answers, trace or trace-with-touches wrote for INPUT; 1 when
+                                they differ but by the clamp";
 
 fn main() -> ExitCode {
     let arguments: Vec<String> = env::args().skip(1).collect();
@@ -94,14 +105,17 @@ fn run(arguments: &[&str]) -> io::Result<bool> {
     match arguments {
         ["cut"] => cut::run(clip::clip_edge)?,
         ["crate-cut"] => cut::run(clip::clip_edge_unrefused)?,
-        ["trace"] => trace::run(0)?,
-        ["trace", number] => trace::run(trace_number(number)?)?,
+        ["trace"] => trace::run(Touches::Dropped, 0)?,
+        ["trace", "touches"] => trace::run(Touches::Kept, 0)?,
+        ["trace", number] => trace::run(Touches::Dropped, trace_number(number)?)?,
+        ["trace", number, "touches"] => trace::run(Touches::Kept, trace_number(number)?)?,
         ["samples", count, seed] => samples::run(whole(count)?, whole(seed)?)?,
         ["answers"] => answers::run(Whose::Crates)?,
         ["list"] => answers::run(Whose::Ours)?,
         ["requests", count, seed] => requests::run(requests::request, whole(count)?, whole(seed)?)?,
         ["lent", count, seed] => requests::run(requests::lent, whole(count)?, whole(seed)?)?,
-        ["unnumbered"] => requests::run_unnumbered()?,
+        ["touching", count, seed] => requests::run(touching::request, whole(count)?, whole(seed)?)?,
+        ["before", landing] => requests::run_before(landing)?,
         ["past", count, seed] => return past::run(whole(count)?, whole(seed)?),
         ["past-requests", count, seed] => requests::run(past::request, whole(count)?, whole(seed)?)?,
         ["near", count, seed] => return near::run(whole(count)?, whole(seed)?),
@@ -111,7 +125,8 @@ fn run(arguments: &[&str]) -> io::Result<bool> {
             near::of_rule(*rule, whole(count)?, whole(seed)?)?;
         }
         ["grid"] => grid::run()?,
-        ["kept"] => kept::run()?,
+        ["kept"] => kept::run(kept::KEPT)?,
+        ["kept", "W10"] => kept::run(kept::W10)?,
         ["records", kind, count, seed] => records::run(kind, whole(count)?, whole(seed)?)?,
         ["same", program, input, one, other] => return same::run(program, input, one, other),
         _ => return Err(io::Error::other(format!("usage:\n{USAGE}"))),

@@ -3,7 +3,8 @@
 pub type Number = u8;
 
 pub const DONE: Number = 0;
-/// No point of the window is met; the vector is not on the side of the asked face.
+/// No point of the window is met or, in a trace that drops touches, one alone of an edge that has more; the vector is
+/// not on the side of the asked face.
 pub const MISSED: Number = 1;
 /// A float that is not finite or, in module 4 and in a trace, beyond 2^500 in magnitude; not a window's.
 pub const NOT_FINITE: Number = 2;

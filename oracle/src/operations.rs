@@ -6,7 +6,7 @@ use crate::answers::FLOATS;
 /// D a direction, b a word that is 0 or not (a yes/no, a corner's side, an axis), L a buffer's length, C a count of
 /// floats, S so many of them in room for the most, N a trace number, always last; W a walk: the count of its records
 /// and the buffer, T a trace: its counts and the buffer.
-pub const OPERATIONS: [(u64, &str, &str); 49] = [
+pub const OPERATIONS: [(u64, &str, &str); 50] = [
     (1, "pp", "p"),
     (2, "pp", "p"),
     (3, "pf", "p"),
@@ -56,17 +56,27 @@ pub const OPERATIONS: [(u64, &str, &str); 49] = [
     (55, "FpbnF", "F"),
     (60, "FpFpnLN", "W"),
     (61, "CLrSN", "T"),
+    (62, "CLrSN", "T"),
 ];
+
+/// A request is drawn from the first so many. 62 is not among them: it takes the place of some 61 (`requests.rs`),
+/// which moves no other request of a seed.
+pub const DRAWN: usize = OPERATIONS.len() - 1;
 
 /// The operations whose answers are hardest to get right: they are asked more often.
 pub const HARD: [u64; 7] = [34, 50, 51, 52, 60, 60, 61];
 
-/// Those that write records into a buffer that they are lent, the trace number in each.
-pub const LENT: [u64; 2] = [60, 61];
+/// Those that write records into a buffer that they are lent, the trace number in each. 62 is not drawn here either.
+pub const LENT: [u64; 3] = [60, 61, 62];
+
+/// A whole trace, touches dropped or with touches (change request W10).
+pub fn is_trace(operation: u64) -> bool {
+    matches!(operation, 61 | 62)
+}
 
 /// Module 4 and the trace, which admit no float beyond the limit.
 pub fn is_limited(operation: u64) -> bool {
-    matches!(operation, 30..=35 | 61)
+    matches!(operation, 30..=35) || is_trace(operation)
 }
 
 /// The kinds of an operation's arguments and of its results; none where it is not listed.

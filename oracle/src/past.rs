@@ -26,7 +26,7 @@ use std::io::{self, Write};
 
 /// Where the two may depart: the operation, the numbers of the crate's answer and of ours, and what that is. Each has to
 /// be found, and no other: an edge that both keep has the same points, since only a value that takes an edge away tells.
-const SOUGHT: [(u64, &str, &str); 7] = [
+const SOUGHT: [(u64, &str, &str); 8] = [
     (30, "00", "values of interpolate"),
     (32, "10", "axes that the crate misses"),
     (32, "00", "axes with another end"),
@@ -34,7 +34,11 @@ const SOUGHT: [(u64, &str, &str); 7] = [
     (33, "00", "boxes with another side"),
     (34, "10", "edges that the crate misses"),
     (61, "00", "traces"),
+    (62, "00", "traces with touches"),
 ];
+
+/// Requests are drawn for the first so many: a trace asks 61 or 62 (see `requests.rs`).
+const DRAWN: usize = SOUGHT.len() - 1;
 
 /// So many faults are shown.
 const SHOWN: usize = 10;
@@ -103,7 +107,7 @@ impl Found {
 }
 
 pub fn request(random: &mut Random) -> [u64; REQUEST] {
-    let (operation, _, _) = random.pick(&SOUGHT);
+    let (operation, _, _) = random.pick(&SOUGHT[..DRAWN]);
     let edge = match random.below(4) {
         0 => edge(random),
         1 => {

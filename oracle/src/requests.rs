@@ -1,23 +1,24 @@
 //! `oracle requests`: seeded requests for the answering program, every operation among them.
 //!
 //! The floats of a request come from one family (see `floats.rs`; in one request of eight each has its own), for
-//! operations 30 to 35 and 61 one that module 4 admits. Intervals and rectangles are put in order, but for one axis in
-//! eight. Most requests of operations 30 to 35 are shaped after an edge and a window of `oracle records edges`, normals
-//! after what is close to a tie, half of the exits of operation 55 are corners (see `shapes.rs`); operation 61 has
-//! traces (see `traces.rs`). In the others up to two floats are bound: equal to another, next to it, opposite, the sum
-//! of two, or a zero of either sign. Last, in one request of 16 a float is not finite, in one of 64 two are; of
-//! operations 30 to 35 and 61 as many are beyond module 4's limit, and in one request of eight a float is at it. Faces,
-//! axes and directions are too great in one of 16, a buffer has any length, and in one request of 64 the operation is
-//! any word. A trace number is 0 in two of eight; as often as each other it is small, next to a power of 256 or the
-//! power, one byte that is not 0 among zeros, 4294967295, a word from 2^32 up, its low half 0, 1 or any, and any word.
-//! The words after the arguments are random: they have to be ignored.
+//! operations 30 to 35 and traces one that module 4 admits. Intervals and rectangles are put in order, but for one axis
+//! in eight. Most requests of operations 30 to 35 are shaped after an edge and a window of `oracle records edges`,
+//! normals after what is close to a tie, half of the exits of operation 55 are corners (see `shapes.rs`); operations 61
+//! and 62, each as often, have traces (see `traces.rs`). In the others up to two floats are bound: equal to another,
+//! next to it, opposite, the sum of two, or a zero of either sign. Last, in one request of 16 a float is not finite, in
+//! one of 64 two are; of operations 30 to 35 and traces as many are beyond module 4's limit, and in one request of
+//! eight a float is at it. Faces, axes and directions are too great in one of 16, a buffer has any length, and in one
+//! request of 64 the operation is any word. A trace number is 0 in two of eight; as often as each other it is small,
+//! next to a power of 256 or the power, one byte that is not 0 among zeros, 4294967295, a word from 2^32 up, its low
+//! half 0, 1 or any, and any word. The words after the arguments are random: they have to be ignored.
 //!
 //! `oracle lent`: such requests of the operations that write records alone.
-//! `oracle unnumbered`: requests with 0 for a trace number, whatever it was.
+//! `oracle before`: seeded requests as their seed gave them before a change request: before W10 by 61 for 62, before W7
+//! with 0 for a trace number too.
 
 use crate::answers::REQUEST;
 use crate::floats::{at_limit, beyond_limit, neighbour, not_finite, zero, Family};
-use crate::operations::{is_limited, kinds, trace_number_place, words_for, HARD, LENT, OPERATIONS};
+use crate::operations::{is_limited, kinds, trace_number_place, words_for, DRAWN, HARD, LENT, OPERATIONS};
 use crate::random::Random;
 use crate::shapes;
 use crate::stream::{read_full, words, write_words};
@@ -51,11 +52,16 @@ pub fn request(random: &mut Random) -> [u64; REQUEST] {
 }
 
 pub fn lent(random: &mut Random) -> [u64; REQUEST] {
-    let operation = random.pick(&LENT);
+    let operation = random.pick(&LENT[..LENT.len() - 1]);
     request_of(random, operation)
 }
 
-pub fn run_unnumbered() -> io::Result<()> {
+pub fn run_before(landing: &str) -> io::Result<()> {
+    let before = match landing {
+        "W7" => before_w7,
+        "W10" => before_w10,
+        _ => return Err(io::Error::other(format!("no requests are known from before {landing:?}: W7, W10"))),
+    };
     let mut input = BufReader::with_capacity(1 << 16, io::stdin().lock());
     let mut output = BufWriter::with_capacity(1 << 16, io::stdout().lock());
     let mut request = [0; 8 * REQUEST];
@@ -63,14 +69,22 @@ pub fn run_unnumbered() -> io::Result<()> {
         match read_full(&mut input, &mut request)? {
             0 => return output.flush(),
             length if length < request.len() => return Err(io::Error::other("the input ends inside a request")),
-            _ => write_words(&mut output, &unnumbered(words(&request)))?,
+            _ => write_words(&mut output, &before(words(&request)))?,
         }
     }
 }
 
-pub fn unnumbered(mut request: [u64; REQUEST]) -> [u64; REQUEST] {
+pub fn before_w7(request: [u64; REQUEST]) -> [u64; REQUEST] {
+    let mut request = before_w10(request);
     if let Some(place) = trace_number_place(request[0]) {
         request[place] = 0;
+    }
+    request
+}
+
+pub fn before_w10(mut request: [u64; REQUEST]) -> [u64; REQUEST] {
+    if request[0] == 62 {
+        request[0] = 61;
     }
     request
 }
@@ -79,17 +93,19 @@ pub fn request_of(random: &mut Random, operation: u64) -> [u64; REQUEST] {
     let mut arguments = match operation {
         30..=35 if !random.once_in(4) => shapes::around_edge(random, operation),
         55 if random.coin() => shapes::at_corner(random),
-        61 => traces::arguments(random),
+        61 | 62 => traces::arguments(random),
         _ => plain_arguments(random, operation),
     };
     spoil(random, operation, &mut floats_of(&mut arguments));
     filled(random, operation, arguments)
 }
 
-/// The words after the arguments are random.
+/// The words after the arguments are random. Whether a trace is asked by 61 or 62, and the trace number, are made of
+/// the words that were drawn for their places, with no draw more: they move no other word of a seed's requests.
 pub fn filled(random: &mut Random, operation: u64, arguments: Vec<Word>) -> [u64; REQUEST] {
-    let mut request = std::array::from_fn(|_| random.word());
-    request[0] = operation;
+    let mut request: [u64; REQUEST] = std::array::from_fn(|_| random.word());
+    let with_touches = operation == 61 && request[0] >> 63 == 1;
+    request[0] = if with_touches { 62 } else { operation };
     for (word, argument) in request[1..].iter_mut().zip(arguments) {
         *word = match argument {
             Word::Float(value) => value.to_bits(),
@@ -102,7 +118,6 @@ pub fn filled(random: &mut Random, operation: u64, arguments: Vec<Word>) -> [u64
     request
 }
 
-/// Made of the word that was drawn for its place, with no draw more: it moves no other word of a seed's requests.
 fn trace_number(drawn: u64) -> u64 {
     let mut random = Random::new(drawn);
     let any = random.word();
@@ -134,7 +149,7 @@ fn operation(random: &mut Random) -> u64 {
     if random.once_in(4) {
         random.pick(&HARD)
     } else {
-        random.pick(&OPERATIONS).0
+        random.pick(&OPERATIONS[..DRAWN]).0
     }
 }
 

@@ -1,6 +1,7 @@
 //! `oracle same`: two files of lines, or of a trace's records, compared as document 01 takes numbers. What was asked
 //! tells which words of a line are floats, and whether a value left its ends. The first file is the crate's; where one
-//! did, the crate is asked again with the clamp, and the second file has to have that.
+//! did, the crate is asked again with the clamp, touches dropped or kept as they were, and the second file has to have
+//! that.
 
 use crate::answers::{line_of, request, REQUEST};
 use crate::clamped::watch;
@@ -9,7 +10,7 @@ use crate::likeness::{compare, compare_edges, Likeness, Likeness::*};
 use crate::operations::kinds;
 use crate::r2::{point::Point, rect::Rect};
 use crate::stream::{hex, read_full, words};
-use crate::trace::{self, SAMPLE_BYTES, WINDOW_BYTES};
+use crate::trace::{self, Touches, SAMPLE_BYTES, WINDOW_BYTES};
 use crate::walk;
 use crate::whose::Whose;
 use crate::words::Arguments;
@@ -25,7 +26,8 @@ const SHOWN: usize = 10;
 pub fn run(program: &str, asked: &str, one: &str, other: &str) -> io::Result<bool> {
     let (asked, one, other) = (open(asked)?, open(one)?, open(other)?);
     let found = match program {
-        "trace" => look_at_records(asked, one, other),
+        "trace" => look_at_records(Touches::Dropped, asked, one, other),
+        "trace-with-touches" => look_at_records(Touches::Kept, asked, one, other),
         _ => look(program, asked, one, other),
     }?;
     writeln!(io::stdout(), "{found}")?;
@@ -37,7 +39,10 @@ fn look(program: &str, mut asked: impl Read, mut one: impl BufRead, mut other: i
     let size = match program {
         "cut" => 8 * RECORD,
         "answers" => 8 * REQUEST,
-        _ => return Err(io::Error::other(format!("no program is called {program:?}: cut, answers, trace"))),
+        _ => {
+            let programs = "cut, answers, trace, trace-with-touches";
+            return Err(io::Error::other(format!("no program is called {program:?}: {programs}")));
+        }
     };
     let asked_in = |record: &[u8]| match program {
         "cut" => request(34, &words::<RECORD>(record)),
@@ -63,7 +68,12 @@ fn look(program: &str, mut asked: impl Read, mut one: impl BufRead, mut other: i
 }
 
 /// There has to be a record for each whole sample after the first.
-fn look_at_records(mut asked: impl Read, mut one: impl Read, mut other: impl Read) -> io::Result<Found> {
+fn look_at_records(
+    touches: Touches,
+    mut asked: impl Read,
+    mut one: impl Read,
+    mut other: impl Read,
+) -> io::Result<Found> {
     let mut found = Found::new("record", shown_record);
     let (mut window, mut sample) = ([0; WINDOW_BYTES], [0; SAMPLE_BYTES]);
     let (mut a, mut b) = ([0; walk::RECORD], [0; walk::RECORD]);
@@ -77,7 +87,7 @@ fn look_at_records(mut asked: impl Read, mut one: impl Read, mut other: impl Rea
             (0, 0) if !whole => return Ok(found),
             (walk::RECORD, walk::RECORD) if whole => {
                 let alike = |a: &[u8]| compare_edges(a.try_into().expect("a record"), &b);
-                let again = || our_record(&window, &before, &sample, walk::trace_number_of(&a)).to_vec();
+                let again = || our_record(touches, &window, &before, &sample, walk::trace_number_of(&a)).to_vec();
                 found.judge(alike, again, &a, &b);
             }
             _ => found.count(Different, &a[..a_length], &b[..b_length]),
@@ -87,6 +97,7 @@ fn look_at_records(mut asked: impl Read, mut one: impl Read, mut other: impl Rea
 
 /// The trace number is that of the crate's record, which the other has to have in any case.
 fn our_record(
+    touches: Touches,
     window: &[u8; WINDOW_BYTES],
     a: &[u8; SAMPLE_BYTES],
     b: &[u8; SAMPLE_BYTES],
@@ -94,7 +105,7 @@ fn our_record(
 ) -> [u8; walk::RECORD] {
     let window: Rect = Arguments::new(&words::<4>(window)).take();
     let [a, b] = [a, b].map(|sample| Arguments::new(&words::<2>(sample)).take::<Point>());
-    trace::cut(Whose::Ours, a, b, &window, trace_number)
+    trace::cut(Whose::Ours, touches, a, b, &window, trace_number)
 }
 
 struct Found {
@@ -220,7 +231,7 @@ mod tests {
 
     /// Records that are not the same and records with a zero of the other sign, where three samples were sent.
     fn found_records(one: &[u8], other: &[u8]) -> (u64, u64) {
-        let found = look_at_records([0; 80].as_slice(), one, other).expect("memory can be read");
+        let found = look_at_records(Touches::Dropped, [0; 80].as_slice(), one, other).expect("memory can be read");
         (found.different, found.zeros)
     }
 
@@ -274,32 +285,60 @@ mod tests {
         assert_eq!(explained([PAST[1], PAST[0], PAST[1]]), (1, 1), "clamped where x is beyond the ends");
     }
 
+    /// A trace of an edge in whose middle a value passes its end, and of one of no length there; the window goes from
+    /// the middle to `high`.
+    fn past_an_end(high: f64) -> [u64; 10] {
+        let window = [5, f64::to_bits(-1.0), high.to_bits(), f64::to_bits(1.0)];
+        [&window[..], &[0, PAST[0], 10, PAST[1], 10, PAST[1]]].concat().try_into().expect("as many")
+    }
+
+    fn records(whose: Whose, touches: Touches, asked: &[u64; 10]) -> [u8; 80] {
+        let (window, samples) = (Arguments::new(asked).take(), asked[4..].iter().map(|word| f64::from_bits(*word)));
+        let mut buffer = [0; 80];
+        let answer = trace::cut_trace(whose, touches, &samples.collect::<Vec<_>>(), &window, 7, &mut buffer);
+        answer.expect("there is room");
+        buffer
+    }
+
+    fn found_in(touches: Touches, asked: &[u64; 10], crates: &[u8], ours: &[u8]) -> (u64, u64) {
+        let mut input = Vec::new();
+        write_words(&mut input, asked).expect("memory can be written");
+        let found = look_at_records(touches, input.as_slice(), crates, ours).expect("memory can be read");
+        (found.different, found.clamped)
+    }
+
     #[test]
     fn the_clamp_in_a_trace() {
-        let window = [5, f64::to_bits(-1.0), f64::to_bits(1.0), f64::to_bits(1.0)];
-        let mut samples = Vec::new();
-        let words = [&window[..], &[0, PAST[0], 10, PAST[1], 10, PAST[1]]].concat();
-        write_words(&mut samples, &words).expect("memory can be written");
-        let floats = |words: &[u64]| words.iter().map(|word| f64::from_bits(*word)).collect::<Vec<_>>();
-        let records = |whose| {
-            let mut buffer = [0; 80];
-            let window = Arguments::new(&window).take();
-            trace::cut_trace(whose, &floats(&words[4..]), &window, 7, &mut buffer).expect("there is room");
-            buffer
-        };
-        let (crates, mut ours) = (records(Whose::Crates), records(Whose::Ours));
+        let asked = past_an_end(1.0);
+        let [crates, mut ours] = [Whose::Crates, Whose::Ours].map(|whose| records(whose, Touches::Dropped, &asked));
         assert_eq!((crates[0], ours[0]), (1, 0), "missed, and kept");
-        let found = |ours: &[u8]| look_at_records(samples.as_slice(), &crates[..], ours).expect("memory can be read");
-        assert_eq!((found(&ours).different, found(&ours).clamped), (0, 1));
-        assert_eq!((found(&crates).different, found(&crates).clamped), (1, 0), "the crate itself");
+        let found = |ours: &[u8]| found_in(Touches::Dropped, &asked, &crates, ours);
+        assert_eq!(found(&ours), (0, 1));
+        assert_eq!(found(&crates), (1, 0), "the crate itself");
         ours[8] ^= 1;
-        assert_eq!((found(&ours).different, found(&ours).clamped), (1, 0), "another point");
+        assert_eq!(found(&ours), (1, 0), "another point");
         ours[8] ^= 1;
         ours[4] = 8;
-        assert_eq!((found(&ours).different, found(&ours).clamped), (1, 0), "another trace number");
+        assert_eq!(found(&ours), (1, 0), "another trace number");
         ours[4] = 7;
         ours[40] = 1;
-        assert_eq!((found(&ours).different, found(&ours).clamped), (1, 1), "a whole edge missed");
+        assert_eq!(found(&ours), (1, 1), "a whole edge missed");
+    }
+
+    /// With no width to the window the crate misses what the clamp keeps as a touch: the two agree only where touches
+    /// are dropped.
+    #[test]
+    fn the_clamp_and_a_touch() {
+        let asked = past_an_end(f64::from_bits(5));
+        for (touches, other, number, clamped) in
+            [(Touches::Dropped, Touches::Kept, 1, 0), (Touches::Kept, Touches::Dropped, 0, 1)]
+        {
+            let [crates, ours] = [Whose::Crates, Whose::Ours].map(|whose| records(whose, touches, &asked));
+            assert_eq!((crates[0], ours[0]), (1, number), "{touches:?}");
+            assert_eq!(found_in(touches, &asked, &crates, &ours), (0, clamped), "{touches:?}");
+            let others = records(Whose::Ours, other, &asked);
+            assert_eq!(found_in(touches, &asked, &crates, &others), (1, 0), "{touches:?}");
+        }
     }
 
     #[test]

@@ -1,13 +1,15 @@
 //! `oracle samples`: a window, and a seeded trace that drifts about it. It goes on by a 32nd of the window's width and
 //! height at the most, and no further from it than half of them; but one sample of 16 is anywhere there, and one of
-//! eight is related to the one before it and to the window as the ends of an edge of `oracle records edges` are. Now
-//! and then the probe is dead, for one sample or some, or a coordinate is as great as is admitted for one sample, while
-//! the trace drifts on.
+//! eight is related to the one before it and to the window as the ends of an edge of `oracle records edges` are. One of
+//! 24 lies on the window, at a corner, on a side or inside, and one of 24 is the one before again. Now and then the
+//! probe is dead, for one sample or some, or a coordinate is as great as is admitted for one sample, while the trace
+//! drifts on.
 
 use crate::floats::at_limit;
 use crate::random::Random;
 use crate::records::related;
 use crate::stream::write_words;
+use crate::touching::on;
 use crate::traces::{kill, Sample, Window};
 use std::io::{self, BufWriter, Write};
 
@@ -58,7 +60,12 @@ impl Trace {
         let step = if random.once_in(16) { jump } else { step };
         let next = [step(random, x, low_x, high_x), step(random, y, low_y, high_y)];
         let times = random.once_in(8).into();
-        self.at = related(random, self.at, next, self.window, times);
+        let related = related(random, self.at, next, self.window, times);
+        self.at = match random.below(24) {
+            0 => on(random, [[low_x, high_x], [low_y, high_y]]),
+            1 => self.at,
+            _ => related,
+        };
     }
 }
 
@@ -75,7 +82,7 @@ fn step(random: &mut Random, at: f64, low: f64, high: f64) -> f64 {
 #[cfg(test)]
 mod tests {
     use super::*;
-    use crate::classes::{must_be_seen, see_edge, Seen, EDGES};
+    use crate::classes::{must_be_seen, see_edge, Seen, CLOSE, EDGES, TOUCHES};
     use crate::clip::LIMIT;
     use crate::r2::{point::Point, rect::Rect};
     use crate::words::Arguments;
@@ -94,7 +101,11 @@ mod tests {
             see_edge(&mut seen, before, sample, &window);
             before = sample;
         }
-        let names: Vec<_> = seen.keys().copied().chain(EDGES).collect();
-        must_be_seen(&seen, &names, 40);
+        must_be_seen(&seen, &["at the limit", "beyond the limit"], 40);
+        must_be_seen(&seen, &EDGES, 40);
+        // The window has a width and a height, and no zero for a side.
+        must_be_seen(&seen, &TOUCHES[..3], 20);
+        let close: Vec<_> = CLOSE.into_iter().filter(|name| !name.contains("zero")).collect();
+        must_be_seen(&seen, &close, 10);
     }
 }

@@ -1,8 +1,9 @@
-//! Change request W1, a whole trace in one call: its refusals in order, then module 4's `clip_edge`, edge by edge.
-//! `oracle trace`: the records that the program of that name has to write for a trace number, a window and samples.
+//! Change request W1, a whole trace in one call: its refusals in order, then module 4's `clip_edge`, edge by edge, and
+//! change request W10, which drops touches unless they are asked for.
+//! `oracle trace`: the records that the program of that name has to write for its words, a window and samples.
 
 use crate::clip::{admit_window, clip_edge};
-use crate::number::{Answer, BAD_TRACE, BAD_WINDOW, BUFFER_TOO_SHORT, DONE};
+use crate::number::{Answer, BAD_TRACE, BAD_WINDOW, BUFFER_TOO_SHORT, DONE, MISSED};
 use crate::r2::{point::Point, rect::Rect};
 use crate::stream::{read_full, words};
 use crate::walk::{record, RECORD};
@@ -21,8 +22,22 @@ pub const SAMPLE_BYTES: usize = 16;
 type Counts = [usize; 4];
 const EDGES: usize = 3;
 
+/// What becomes of an edge that only touches the window: it is missed, or kept as any other.
+#[derive(Clone, Copy, PartialEq, Eq, Debug)]
+pub enum Touches {
+    Dropped,
+    Kept,
+}
+
 /// Gives back the counts. With a number instead, the buffer is as it was.
-pub fn cut_trace(whose: Whose, samples: &[f64], window: &Rect, trace_number: u32, buffer: &mut [u8]) -> Answer<Counts> {
+pub fn cut_trace(
+    whose: Whose,
+    touches: Touches,
+    samples: &[f64],
+    window: &Rect,
+    trace_number: u32,
+    buffer: &mut [u8],
+) -> Answer<Counts> {
     let (samples, odd) = samples.as_chunks();
     if !odd.is_empty() || samples.len() > SAMPLES {
         return Err(BAD_TRACE);
@@ -30,7 +45,7 @@ pub fn cut_trace(whose: Whose, samples: &[f64], window: &Rect, trace_number: u32
     admit_window(window)?;
     let samples: Vec<Point> = samples.iter().map(|[x, y]| Point { x: *x, y: *y }).collect();
     let edges = samples.windows(2);
-    let records: Vec<_> = edges.map(|edge| cut(whose, edge[0], edge[1], window, trace_number)).collect();
+    let records: Vec<_> = edges.map(|edge| cut(whose, touches, edge[0], edge[1], window, trace_number)).collect();
     if buffer.len() / RECORD < records.len() {
         return Err(BUFFER_TOO_SHORT);
     }
@@ -43,12 +58,25 @@ pub fn cut_trace(whose: Whose, samples: &[f64], window: &Rect, trace_number: u32
 }
 
 /// The record of an edge: the number of its answer, the trace number and, where it is kept, its points.
-pub fn cut(whose: Whose, a: Point, b: Point, window: &Rect, trace_number: u32) -> [u8; RECORD] {
+pub fn cut(whose: Whose, touches: Touches, a: Point, b: Point, window: &Rect, trace_number: u32) -> [u8; RECORD] {
     const ZERO: Point = Point { x: 0.0, y: 0.0 };
     match clip_edge(whose, a, b, window.clone()) {
+        Ok(kept) if touches == Touches::Dropped && only_touches((a, b), kept) => {
+            record(MISSED, trace_number, ZERO, ZERO)
+        }
         Ok((kept_a, kept_b)) => record(DONE, trace_number, kept_a, kept_b),
         Err(number) => record(number, trace_number, ZERO, ZERO),
     }
+}
+
+/// One point of the edge is kept, though it has more than one.
+pub fn only_touches((a, b): (Point, Point), (kept_a, kept_b): (Point, Point)) -> bool {
+    same_point(kept_a, kept_b) && !same_point(a, b)
+}
+
+/// As numbers, so that a zero's sign does not tell. The crate's own equality is another: there a NaN equals everything.
+pub fn same_point(a: Point, b: Point) -> bool {
+    a.x == b.x && a.y == b.y
 }
 
 fn count(counts: &mut Counts, record: &[u8; RECORD]) {
@@ -58,7 +86,7 @@ fn count(counts: &mut Counts, record: &[u8; RECORD]) {
 
 /// Beside the records it says on standard error what the program has to say there: a bad window, a torn last sample,
 /// and the counts.
-pub fn run(trace_number: u32) -> io::Result<()> {
+pub fn run(touches: Touches, trace_number: u32) -> io::Result<()> {
     let mut input = BufReader::with_capacity(1 << 16, io::stdin().lock());
     let mut window = [0; WINDOW_BYTES];
     if read_full(&mut input, &mut window)? < WINDOW_BYTES {
@@ -70,7 +98,8 @@ pub fn run(trace_number: u32) -> io::Result<()> {
         return Ok(());
     }
     let mut output = BufWriter::with_capacity(1 << 16, io::stdout().lock());
-    let ([kept, missed, refused, edges], torn) = write_records(&mut input, &window, trace_number, &mut output)?;
+    let ([kept, missed, refused, edges], torn) =
+        write_records(&mut input, touches, &window, trace_number, &mut output)?;
     output.flush()?;
     if torn > 0 {
         eprintln!("trace: the last sample is torn, {torn} bytes of {SAMPLE_BYTES}");
@@ -82,6 +111,7 @@ pub fn run(trace_number: u32) -> io::Result<()> {
 /// Writes the records of a trace of any length; gives back the counts, and the length of a torn end.
 fn write_records(
     input: &mut impl Read,
+    touches: Touches,
     window: &Rect,
     trace_number: u32,
     output: &mut impl Write,
@@ -95,7 +125,7 @@ fn write_records(
         }
         let sample: Point = Arguments::new(&words::<2>(&bytes)).take();
         if let Some(before) = before.replace(sample) {
-            let record = cut(Whose::Crates, before, sample, window, trace_number);
+            let record = cut(Whose::Crates, touches, before, sample, window, trace_number);
             count(&mut counts, &record);
             output.write_all(&record)?;
         }
@@ -116,9 +146,13 @@ mod tests {
     /// P1's edge, two that touch a dead sample, P2's edge, one beside the window.
     const TRACE: [f64; 12] = [0.0, 0.0, 4.0, 2.0, 4.0, NAN, 0.0, 2.0, 4.0, 0.0, 4.0, 5.0];
 
+    /// No edge here only touches its window, so that 62 gives the same line.
     fn ask(count: u64, length: u64, window: [f64; 4], floats: &[f64]) -> String {
         let floats: Vec<u64> = window.iter().chain(floats).map(|float| float.to_bits()).collect();
-        line_of(&request(61, &[&[count, length], &floats[..]].concat()), Whose::Crates)
+        let words = [&[count, length], &floats[..]].concat();
+        let [line, with_touches] = [61, 62].map(|operation| line_of(&request(operation, &words), Whose::Crates));
+        assert_eq!(line, with_touches);
+        line
     }
 
     fn line(number: u8, counts: Counts, bytes: &str) -> String {
@@ -205,16 +239,22 @@ mod tests {
         Arguments::new(&WINDOW.map(f64::to_bits)).take()
     }
 
+    /// The last edge goes to a corner of the window.
     #[test]
     fn the_program() {
-        let mut input: Vec<u8> = TRACE.iter().flat_map(|float| float.to_le_bytes()).collect();
-        let mut expected = [0; 5 * RECORD];
-        let counts = cut_trace(Whose::Crates, &TRACE, &window(), 7, &mut expected).expect("there is room");
-        for torn in [0, 1, 15] {
-            input.resize(8 * TRACE.len() + torn, 0);
-            let mut records = Vec::new();
-            let said = write_records(&mut input.as_slice(), &window(), 7, &mut records).expect("memory can be written");
-            assert_eq!((said, records.as_slice()), ((counts, torn), expected.as_slice()));
+        let samples = [&TRACE[..], &[3.0, 2.0]].concat();
+        let mut input: Vec<u8> = samples.iter().flat_map(|float| float.to_le_bytes()).collect();
+        for (touches, kept) in [(Touches::Dropped, 2), (Touches::Kept, 3)] {
+            let mut expected = [0; 6 * RECORD];
+            let counts = cut_trace(Whose::Crates, touches, &samples, &window(), 7, &mut expected);
+            assert_eq!(counts, Ok([kept, 4 - kept, 2, 6]), "{touches:?}");
+            for torn in [0, 1, 15] {
+                input.resize(8 * samples.len() + torn, 0);
+                let mut records = Vec::new();
+                let said = write_records(&mut input.as_slice(), touches, &window(), 7, &mut records);
+                assert_eq!(said.expect("memory can be written"), (counts.expect("there is room"), torn), "{touches:?}");
+                assert_eq!(records, expected, "{touches:?}");
+            }
         }
     }
 
@@ -222,7 +262,8 @@ mod tests {
     fn the_longest_trace() {
         let mut buffer = vec![0xa5; RECORD * SAMPLES];
         let mut number = |floats: usize, length: usize| {
-            let answer = cut_trace(Whose::Crates, &vec![1.0; floats], &window(), 0, &mut buffer[..length]);
+            let samples = vec![1.0; floats];
+            let answer = cut_trace(Whose::Crates, Touches::Dropped, &samples, &window(), 0, &mut buffer[..length]);
             answer.map_or_else(|number| number, |_| DONE)
         };
         let room = RECORD * (SAMPLES - 1);

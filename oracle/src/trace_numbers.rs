@@ -6,13 +6,12 @@ use crate::classes::{must_be_seen, Seen};
 use crate::number::{Number, BAD_TRACE, BAD_WINDOW, BUFFER_TOO_SHORT, FACE_MISSED, NOT_FINITE, NO_SUCH_FACE};
 use crate::number::{TARGET_NOT_REACHED, ZERO};
 use crate::operations::{trace_number_place, LENT};
-use crate::page::STORED_REQUESTS;
 use crate::r2::{point::Point, rect::Rect};
 use crate::r3::vector::Vector;
 use crate::random::Random;
-use crate::requests::{self, filled, lent, request_of, unnumbered};
-use crate::stream::words;
-use crate::trace::cut_trace;
+use crate::requests::{before_w7, filled, lent, request_of};
+use crate::stored;
+use crate::trace::{cut_trace, Touches};
 use crate::walk::{trace_number_of, walk, RECORD};
 use crate::whose::Whose;
 use crate::words::Arguments;
@@ -33,13 +32,17 @@ fn ask_walk(target: u64, normal: [f64; 3], length: u64, trace_number: u64) -> St
     line_of(&request(60, &[&[0, 0, 0, target, 0, 0], &normal[..], &[length, trace_number]].concat()), Whose::Crates)
 }
 
-/// The words for floats that are not given are NaNs, which would show in a record.
+/// The words for floats that are not given are NaNs, which would show in a record. No edge here only touches its
+/// window, so that 62 gives the same line.
 fn ask_trace(count: u64, window: [f64; 4], floats: &[f64], length: u64, trace_number: u64) -> String {
     let mut words = [NAN.to_bits(); 4 + FLOATS];
     for (word, float) in words.iter_mut().zip(window.iter().chain(floats)) {
         *word = float.to_bits();
     }
-    line_of(&request(61, &[&[count, length], &words[..], &[trace_number]].concat()), Whose::Crates)
+    let words = [&[count, length], &words[..], &[trace_number]].concat();
+    let [line, with_touches] = [61, 62].map(|operation| line_of(&request(operation, &words), Whose::Crates));
+    assert_eq!(line, with_touches);
+    line
 }
 
 fn walked(trace_number: u64) -> String {
@@ -158,7 +161,7 @@ type Call = fn(u32, &mut [u8]);
 
 fn cut(samples: [f64; 8], trace_number: u32, part: &mut [u8]) {
     let window: Rect = Arguments::new(&WINDOW.map(f64::to_bits)).take();
-    let counts = cut_trace(Whose::Crates, &samples, &window, trace_number, part);
+    let counts = cut_trace(Whose::Crates, Touches::Dropped, &samples, &window, trace_number, part);
     assert_eq!(counts.expect("there is room")[3], 3);
 }
 
@@ -195,8 +198,8 @@ fn parts_of_one_buffer() {
 
 #[test]
 fn places() {
-    assert_eq!((trace_number_place(60), trace_number_place(61)), (Some(11), Some(REQUEST - 1)));
-    for operation in (0..60).chain(62..300) {
+    assert_eq!(LENT.map(trace_number_place), [Some(11), Some(REQUEST - 1), Some(REQUEST - 1)]);
+    for operation in (0..60).chain(63..300) {
         assert_eq!(trace_number_place(operation), None, "operation {operation}");
     }
 }
@@ -205,17 +208,19 @@ fn trace_number_in(request: &[u64; REQUEST]) -> u64 {
     request[trace_number_place(request[0]).expect("an operation that writes records")]
 }
 
+/// Before W7 there was no 62 either.
 #[test]
-fn unnumbered_requests() {
+fn requests_before_w7() {
     let mut random = Random::new(1);
-    for operation in [30, 60, 61, 62, 300] {
-        let before = [0; REQUEST].map(|_| random.word() | 1);
-        let before = [&[operation], &before[1..]].concat().try_into().expect("as long");
-        let after = unnumbered(before);
-        for place in 0..REQUEST {
-            let cleared = trace_number_place(operation) == Some(place);
-            assert_eq!(after[place], if cleared { 0 } else { before[place] }, "operation {operation}, word {place}");
+    for (operation, before_it) in [(30, 30), (60, 60), (61, 61), (62, 61), (300, 300)] {
+        let mut now = [0; REQUEST].map(|_| random.word() | 1);
+        now[0] = operation;
+        let mut expected = now;
+        expected[0] = before_it;
+        if let Some(place) = trace_number_place(operation) {
+            expected[place] = 0;
         }
+        assert_eq!(before_w7(now), expected, "operation {operation}");
     }
 }
 
@@ -254,8 +259,9 @@ fn seeded_numbers_of_every_class() {
     for operation in LENT {
         let (mut random, mut seen) = (Random::new(1), Seen::new());
         let count = 20_000;
-        for _ in 0..count {
-            see(&mut seen, trace_number_in(&request_of(&mut random, operation)));
+        let requests = std::iter::repeat_with(|| request_of(&mut random, operation));
+        for request in requests.filter(|request| request[0] == operation).take(count as usize) {
+            see(&mut seen, trace_number_in(&request));
         }
         let names: Vec<_> = seen.keys().copied().collect();
         must_be_seen(&seen, &names, 100);
@@ -280,10 +286,13 @@ fn numbers_take_no_draw() {
 }
 
 #[test]
-fn both_operations_are_lent() {
+fn all_of_them_are_lent() {
     let mut random = Random::new(1);
-    let walks = (0..1000).filter(|_| lent(&mut random)[0] == 60).count();
-    assert!((400..600).contains(&walks), "{walks} walks of 1000");
+    let operations: Vec<u64> = (0..1000).map(|_| lent(&mut random)[0]).collect();
+    for (operation, about) in LENT.into_iter().zip([500, 250, 250]) {
+        let times = operations.iter().filter(|lent| **lent == operation).count();
+        assert!((about - 60..about + 60).contains(&times), "operation {operation}: {times} of 1000");
+    }
 }
 
 /// What the stored list has to have of a request that writes records, or would.
@@ -306,29 +315,13 @@ fn see_stored(seen: &mut BTreeMap<String, u64>, request: &[u64; REQUEST]) {
     }
 }
 
-/// The list ends as `oracle/store` asks: seeded requests with no number but 0, then those with numbers. So whatever
-/// moves another word of a seed's requests shows here.
-#[test]
-fn the_stored_list_ends_with_seeded_requests() {
-    let (mut random, mut random_lent) = (Random::new(1), Random::new(2));
-    let seeded = (0..5000).map(|_| unnumbered(requests::request(&mut random)));
-    let expected: Vec<_> = seeded.chain((0..300).map(|_| lent(&mut random_lent))).collect();
-    let stored = STORED_REQUESTS.as_chunks::<{ 8 * REQUEST }>().0;
-    for (place, (stored, expected)) in stored.iter().rev().zip(expected.iter().rev()).enumerate() {
-        assert_eq!(words(stored), *expected, "the request {place} before the last: run oracle/store");
-    }
-}
-
 #[test]
 fn the_stored_list_has_numbers() {
     let mut seen = BTreeMap::new();
-    for stored in STORED_REQUESTS.as_chunks::<{ 8 * REQUEST }>().0 {
-        let request = words(stored);
-        if LENT.contains(&request[0]) {
-            see_stored(&mut seen, &request);
-        }
+    for request in stored::requests().iter().filter(|request| LENT.contains(&request[0])) {
+        see_stored(&mut seen, request);
     }
-    let refusals = [(60, [2, 4, 5, 6, 7, 8].as_slice()), (61, &[3, 8, 10])];
+    let refusals = [(60, [2, 4, 5, 6, 7, 8].as_slice()), (61, &[3, 8, 10]), (62, &[3, 8, 10])];
     for (operation, numbers) in refusals {
         let refused = numbers.iter().map(|number| (format!("not 0, refused with {number}"), 1));
         let written = ["0, some records", "not 0, some records"].map(|name| (name.to_string(), 10));

@@ -1,4 +1,4 @@
-//! Seeded traces for operation 61: none to eight samples.
+//! Seeded traces for operations 61 and 62: none to eight samples.
 //!
 //! The first two and the window are an edge's of `oracle records edges`. Each further sample is fresh, then related to
 //! the one before it and to the window as the ends of such an edge are. One trace of 16 has an odd count of floats, one
@@ -17,9 +17,13 @@ pub type Sample = [f64; 2];
 /// Low x, low y, high x, high y.
 pub type Window = [f64; 4];
 
-/// As many samples as there is room for, whatever the count says.
 pub fn arguments(random: &mut Random) -> Vec<Word> {
-    let (window, mut samples) = trace(random);
+    let (window, samples) = trace(random);
+    asked(random, window, samples)
+}
+
+/// A request of these samples, which are as many as there is room for, whatever the count says.
+pub fn asked(random: &mut Random, window: Window, mut samples: Vec<Sample>) -> Vec<Word> {
     kill_some(random, &mut samples);
     let floats = count(random);
     let records = (floats / 2).saturating_sub(1) * RECORD;
@@ -92,14 +96,14 @@ fn length(random: &mut Random, records: u64) -> u64 {
 #[cfg(test)]
 mod tests {
     use super::*;
-    use crate::classes::{must_be_seen, see_edge, Seen, EDGES};
+    use crate::classes::{must_be_seen, see_edge, Seen, EDGES, TOUCHES};
     use crate::clip::admitted;
     use crate::finite::Floats;
     use crate::r2::{point::Point, rect::Rect};
     use crate::words::Arguments;
 
-    /// What the comment above promises of a request.
-    fn see_request(seen: &mut Seen, words: &[u64]) {
+    /// What the comment above promises of a request, and the classes of all edges in it.
+    fn see_request(seen: &mut Seen, edges: &mut Seen, words: &[u64]) {
         let mut a = Arguments::new(words);
         let (count, length, window): (u64, u64, Rect) = (a.take(), a.take(), a.take());
         let samples: [Point; FLOATS / 2] = std::array::from_fn(|_| a.take());
@@ -125,20 +129,21 @@ mod tests {
         ] {
             *seen.entry(name).or_default() += u64::from(holds);
         }
-        samples.windows(2).for_each(|edge| see_edge(seen, edge[0], edge[1], &window));
+        samples.windows(2).for_each(|edge| see_edge(edges, edge[0], edge[1], &window));
     }
 
     #[test]
     fn requests_of_every_kind() {
-        let (mut random, mut seen) = (Random::new(1), Seen::new());
+        let (mut random, mut seen, mut edges) = (Random::new(1), Seen::new(), Seen::new());
         for _ in 0..20_000 {
             let words = arguments(&mut random).into_iter().map(|word| match word {
                 Float(value) => value.to_bits(),
                 Plain(value) => value,
             });
-            see_request(&mut seen, &words.collect::<Vec<_>>());
+            see_request(&mut seen, &mut edges, &words.collect::<Vec<_>>());
         }
-        let names: Vec<_> = seen.keys().copied().chain(EDGES).collect();
-        must_be_seen(&seen, &names, 100);
+        must_be_seen(&seen, &seen.keys().copied().collect::<Vec<_>>(), 100);
+        must_be_seen(&edges, &EDGES, 100);
+        must_be_seen(&edges, &TOUCHES, 50);
     }
 }

@@ -155,18 +155,25 @@ pub(crate) fn umb_walk(
     unsafe { umb_walk(face, a, target, b, normal, whose, out.as_mut_ptr(), out.len()) }.result()
 }
 
-pub(crate) fn umb_cut_trace(samples: &[f64], window: Rect, whose: u32, out: &mut [u8]) -> Result<Counts, Refusal> {
-    extern "C" {
-        fn umb_cut_trace(
-            samples: *const f64,
-            samples_length: usize,
-            window: Rect,
-            whose: u32,
-            out: *mut u8,
-            out_length: usize,
-        ) -> Numbered<Counts>;
-    }
-    // SAFETY: it is declared as in the header, and is lent two slices that do not overlap: not null, as long as it is
-    // told; the samples are only read, and the bytes are no one else's until it is back.
-    unsafe { umb_cut_trace(samples.as_ptr(), samples.len(), window, whose, out.as_mut_ptr(), out.len()) }.result()
+/// Declares the archive's functions of a whole trace, and over each the safe one.
+macro_rules! traces {
+    ($($name:ident)*) => {$(
+        pub(crate) fn $name(samples: &[f64], window: Rect, whose: u32, out: &mut [u8]) -> Result<Counts, Refusal> {
+            extern "C" {
+                fn $name(
+                    samples: *const f64,
+                    samples_length: usize,
+                    window: Rect,
+                    whose: u32,
+                    out: *mut u8,
+                    out_length: usize,
+                ) -> Numbered<Counts>;
+            }
+            // SAFETY: it is declared as in the header, and is lent two slices that do not overlap: not null, as long as
+            // it is told; the samples are only read, and the bytes are no one else's until it is back.
+            unsafe { $name(samples.as_ptr(), samples.len(), window, whose, out.as_mut_ptr(), out.len()) }.result()
+        }
+    )*};
 }
+
+traces! { umb_cut_trace umb_cut_trace_with_touches }

@@ -4,7 +4,7 @@ use umblacet::r1::interval::Interval;
 use umblacet::r2::{point::Point, rect::Rect};
 use umblacet::r3::vector::Vector;
 use umblacet::s2::edge_clipping::walk;
-use umblacet::trace::cut_trace;
+use umblacet::trace::{cut_trace, cut_trace_with_touches};
 use umblacet::Refusal;
 
 const RECORD: usize = 40;
@@ -16,7 +16,13 @@ const AROUND: usize = 7;
 /// Asks for an engine's records, under a trace number, in a buffer; gives their count.
 type Engine = fn(u32, &mut [u8]) -> Result<usize, Refusal>;
 
-const ENGINES: [Engine; 4] = [longer_trace, shorter_trace, longer_walk, walk_on_a_face];
+const ENGINES: [Engine; 6] =
+    [longer_trace, shorter_trace, touching_trace, touching_trace_with_touches, longer_walk, walk_on_a_face];
+
+const WINDOW: Rect = Rect { x: Interval::new(1.0, 3.0), y: Interval::new(0.0, 2.0) };
+
+/// Its edges touch a side, cut a corner off, touch another side, touch a corner in passing, and have a dead end.
+const TOUCHING: [f64; 12] = [2.0, 3.0, 2.0, 2.0, 3.0, 1.0, 4.0, 1.0, 2.0, 3.0, 2.0, f64::NAN];
 
 fn longer_trace(whose: u32, out: &mut [u8]) -> Result<usize, Refusal> {
     trace(&[0.0, 0.0, 4.0, 2.0, 4.0, f64::NAN, 0.0, 2.0, 4.0, 0.0, 4.0, 5.0], whose, out)
@@ -26,9 +32,16 @@ fn shorter_trace(whose: u32, out: &mut [u8]) -> Result<usize, Refusal> {
     trace(&[1.25, 1.0, 2.5, 1.5, f64::INFINITY, 1.0], whose, out)
 }
 
+fn touching_trace(whose: u32, out: &mut [u8]) -> Result<usize, Refusal> {
+    trace(&TOUCHING, whose, out)
+}
+
+fn touching_trace_with_touches(whose: u32, out: &mut [u8]) -> Result<usize, Refusal> {
+    cut_trace_with_touches(&TOUCHING, WINDOW, whose, out).map(|counts| counts.edges)
+}
+
 fn trace(samples: &[f64], whose: u32, out: &mut [u8]) -> Result<usize, Refusal> {
-    let window = Rect { x: Interval::new(1.0, 3.0), y: Interval::new(0.0, 2.0) };
-    cut_trace(samples, window, whose, out).map(|counts| counts.edges)
+    cut_trace(samples, WINDOW, whose, out).map(|counts| counts.edges)
 }
 
 const MIDDLE: Point = Point { x: 0.0, y: 0.0 };
@@ -93,6 +106,14 @@ fn every_pair() -> impl Iterator<Item = Pair> {
             })
         })
     })
+}
+
+/// The two would show nothing of touches if their records were the same.
+#[test]
+fn the_touching_traces_differ() {
+    let numbers = |engine| records(engine, 0).chunks(RECORD).map(|record| record[0]).collect::<Vec<u8>>();
+    assert_eq!(numbers(touching_trace), [1, 0, 1, 1, 2]);
+    assert_eq!(numbers(touching_trace_with_touches), [0, 0, 0, 0, 2]);
 }
 
 fn write((engine, whose): (Engine, u32), part: &mut [u8]) {

@@ -1,9 +1,9 @@
-//! A whole trace in one call: its records, what it refuses, and what it leaves in a buffer.
+//! A whole trace in one call: its records, what it refuses, and what it leaves in a buffer. Touches are apart.
 
 use umblacet::r1::interval::Interval;
 use umblacet::r2::{point::Point, rect::Rect};
 use umblacet::s2::edge_clipping::clip_edge;
-use umblacet::trace::{cut_trace, Counts};
+use umblacet::trace::{cut_trace, cut_trace_with_touches, Counts};
 use umblacet::Refusal;
 
 const RECORD: usize = 40;
@@ -15,13 +15,20 @@ const NAN: f64 = f64::NAN;
 const PLOT: Rect = Rect { x: Interval::new(1.0, 3.0), y: Interval::new(0.0, 2.0) };
 const TURNED: Rect = Rect { x: Interval::new(3.0, 1.0), y: Interval::new(0.0, 2.0) };
 
-/// P1's edge, two that touch a dead sample, P2's edge, one beside the window.
+/// P1's edge, two with a dead end, P2's edge, one beside the window.
 const TRACE: [f64; 12] = [0.0, 0.0, 4.0, 2.0, 4.0, NAN, 0.0, 2.0, 4.0, 0.0, 4.0, 5.0];
 
-/// The answer, and the buffer of this length after it.
+/// The answer, and the buffer of this length after it: the same with touches, for no trace here has any.
 fn cut(samples: &[f64], window: Rect, length: usize) -> (Result<Counts, Refusal>, Vec<u8>) {
-    let mut bytes = vec![UNTOUCHED; length];
-    (cut_trace(samples, window, WHOSE, &mut bytes), bytes)
+    cut_under(WHOSE, samples, window, length)
+}
+
+fn cut_under(whose: u32, samples: &[f64], window: Rect, length: usize) -> (Result<Counts, Refusal>, Vec<u8>) {
+    let [mut bytes, mut with_touches] = [vec![UNTOUCHED; length], vec![UNTOUCHED; length]];
+    let answer = cut_trace(samples, window, whose, &mut bytes);
+    assert_eq!(cut_trace_with_touches(samples, window, whose, &mut with_touches), answer);
+    assert_eq!(with_touches, bytes);
+    (answer, bytes)
 }
 
 fn record(number: u8, floats: [f64; 4]) -> Vec<u8> {
@@ -49,12 +56,11 @@ fn records_and_counts() {
 fn every_record_says_whose_it_is() {
     let (_, mut expected) = cut(&TRACE, PLOT, 5 * RECORD);
     for whose in [0, 1, 0x0102_0304, u32::MAX] {
-        let mut bytes = [UNTOUCHED; 5 * RECORD];
-        assert!(cut_trace(&TRACE, PLOT, whose, &mut bytes).is_ok());
+        let (_, bytes) = cut_under(whose, &TRACE, PLOT, 5 * RECORD);
         for record in expected.chunks_mut(RECORD) {
             record[4..8].copy_from_slice(&whose.to_le_bytes());
         }
-        assert_eq!(bytes[..], expected, "{whose}");
+        assert_eq!(bytes, expected, "{whose}");
     }
 }
 

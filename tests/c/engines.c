@@ -14,9 +14,15 @@ enum { BUFFER = 512, BEFORE = 7, MOST_RECORDS = 5 };
 typedef uint8_t asks(uint32_t whose, uint8_t *out, size_t length);
 
 static const umb_rect window = {{1, 3}, {0, 2}}, turned = {{3, 1}, {0, 2}};
-/* With a dead sample each, one of them at its end. Not const: a write there is for a check to find. */
+/* With a dead sample each, two of them at the end; the last touches two sides and a corner in passing. Not const: a
+ * write there is for a check to find. */
 static double longer[] = {0, 0, 4, 2, 4, 0x1p501, 0, 2, 4, 0, 4, 5}, shorter[] = {1.25, 1, 2.5, 1.5, 0x1p501, 1};
-enum { LONGER = sizeof longer / sizeof longer[0], SHORTER = sizeof shorter / sizeof shorter[0] };
+static double touching[] = {2, 3, 2, 2, 3, 1, 4, 1, 2, 3, 2, 0x1p501};
+enum {
+    LONGER = sizeof longer / sizeof longer[0],
+    SHORTER = sizeof shorter / sizeof shorter[0],
+    TOUCHING = sizeof touching / sizeof touching[0]
+};
 
 static uint8_t longer_trace(uint32_t whose, uint8_t *out, size_t length)
 {
@@ -28,9 +34,24 @@ static uint8_t shorter_trace(uint32_t whose, uint8_t *out, size_t length)
     return umb_cut_trace(shorter, SHORTER, window, whose, out, length).number;
 }
 
+static uint8_t touching_trace(uint32_t whose, uint8_t *out, size_t length)
+{
+    return umb_cut_trace(touching, TOUCHING, window, whose, out, length).number;
+}
+
+static uint8_t touching_trace_with_touches(uint32_t whose, uint8_t *out, size_t length)
+{
+    return umb_cut_trace_with_touches(touching, TOUCHING, window, whose, out, length).number;
+}
+
 static uint8_t trace_to_no_window(uint32_t whose, uint8_t *out, size_t length)
 {
     return umb_cut_trace(longer, LONGER, turned, whose, out, length).number;
+}
+
+static uint8_t trace_with_touches_to_no_window(uint32_t whose, uint8_t *out, size_t length)
+{
+    return umb_cut_trace_with_touches(touching, TOUCHING, turned, whose, out, length).number;
 }
 
 static uint8_t trace_of_half_a_sample(uint32_t whose, uint8_t *out, size_t length)
@@ -88,9 +109,26 @@ static const engine engines[] = {
       {UMB_DONE, {1, 1.5}, {3, 0.5}},
       {.first = UMB_MISSED}}},
     {shorter_trace, UMB_DONE, 2, {{UMB_DONE, {1.25, 1}, {2.5, 1.5}}, {.first = UMB_NOT_FINITE}}},
+    {touching_trace,
+     UMB_DONE,
+     5,
+     {{.first = UMB_MISSED},
+      {UMB_DONE, {2, 2}, {3, 1}},
+      {.first = UMB_MISSED},
+      {.first = UMB_MISSED},
+      {.first = UMB_NOT_FINITE}}},
+    {touching_trace_with_touches,
+     UMB_DONE,
+     5,
+     {{UMB_DONE, {2, 2}, {2, 2}},
+      {UMB_DONE, {2, 2}, {3, 1}},
+      {UMB_DONE, {3, 1}, {3, 1}},
+      {UMB_DONE, {3, 2}, {3, 2}},
+      {.first = UMB_NOT_FINITE}}},
     {longer_walk, UMB_DONE, 3, {{0, {0, 0}, {1, -0.0}}, {1, {-1, -0.0}, {1, 0}}, {3, {-0.0, -1}, {0, 0}}}},
     {walk_on_a_face, UMB_DONE, 1, {{4, {0.25, -0.5}, {0, 0}}}},
     {.ask = trace_to_no_window, .number = UMB_BAD_WINDOW},
+    {.ask = trace_with_touches_to_no_window, .number = UMB_BAD_WINDOW},
     {.ask = trace_of_half_a_sample, .number = UMB_BAD_TRACE},
     {.ask = walk_from_no_face, .number = UMB_BAD_FACE},
     {.ask = walk_off_its_face, .number = UMB_OFF_FACE},

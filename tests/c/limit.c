@@ -7,16 +7,14 @@
 
 #include <string.h>
 
-enum { TRACE = 61 };
-
 /* The words of an operation: c a coordinate, l a window's low side, h a high one; a digit is that number, r the bytes
  * of a record. */
 static const struct operation {
     uint64_t number;
     const char *words;
 } operations[] = {
-    {30, "ccccc"},    {31, "cc0c"},     {32, "cccccccc0lh"},   {33, "ccccllhhcccc"},
-    {34, "ccccllhh"}, {35, "ccccllhh"}, {TRACE, "4rllhhcccc"},
+    {30, "ccccc"},    {31, "cc0c"},     {32, "cccccccc0lh"}, {33, "ccccllhhcccc"},
+    {34, "ccccllhh"}, {35, "ccccllhh"}, {61, "4rllhhcccc"},  {62, "4rllhhcccc"},
 };
 
 static const double limit = 0x1p500;
@@ -59,7 +57,7 @@ static request plain_request(const struct operation *asked)
 static unsigned number_for(const request *r)
 {
     answer a = {0};
-    if (r->words[0] == TRACE) {
+    if (entry_for(r) != NULL) {
         const lent t = trace(r, RECORD);
         return t.answer.number == UMB_DONE ? t.bytes[0] : t.answer.number;
     }

@@ -1,8 +1,10 @@
-/* Long traces, each record beside what umb_clip_edge answers for its edge. */
+/* Long traces, each record beside what umb_clip_edge answers for its edge, and without touches beside with them. */
 #include "long_trace.h"
 
-#include "lent.h"
+#include "kinds.h"
 #include "record.h"
+#include "samples.h"
+#include "trace.h"
 
 #include <string.h>
 
@@ -14,87 +16,106 @@ static const umb_rect window = {{0, 1}, {0, 1}}, turned = {{1, 0}, {0, 1}};
 /* A trace number of which no two bytes are the same. */
 static const uint32_t some_number = 0x89abcdef;
 
-/* ---- the samples */
-
-/* splitmix64 (Steele, Lea and Flood, 2014) */
-static uint64_t random_word(void)
-{
-    static uint64_t state;
-    state += 0x9e3779b97f4a7c15;
-    uint64_t mixed = state;
-    mixed = (mixed ^ mixed >> 30) * 0xbf58476d1ce4e5b9;
-    mixed = (mixed ^ mixed >> 27) * 0x94d049bb133111eb;
-    return mixed ^ mixed >> 31;
-}
-
-static double not_a_number(void)
-{
-    const uint64_t bits = 0x7ff8000000000000;
-    double value;
-    memcpy(&value, &bits, sizeof value);
-    return value;
-}
-
-/* -0.5 to 1.5, so that samples lie in the window and on all its sides; now and then that of the sample before, one as
- * great as is admitted, or that of a dead one. */
-static double coordinate(size_t place)
-{
-    const uint64_t word = random_word();
-    if (word % 128 == 0)
-        return not_a_number();
-    if (word % 128 == 64)
-        return 0x1.0000000000001p500;
-    if (word % 128 == 2)
-        return -0x1p500;
-    if (word % 16 == 1 && place >= 2)
-        return samples[place - 2];
-    return (double)(word >> 11) / 4503599627370496 - 0.5;
-}
-
 static umb_point sample_at(size_t place)
 {
     return (umb_point){samples[2 * place], samples[2 * place + 1]};
 }
 
-/* ---- what has to hold */
-
-static bool same_counts(umb_trace_answer one, umb_trace_answer other)
+static edge edge_at(size_t place)
 {
-    const answer a = of_trace(one), b = of_trace(other);
-    return same_answer(&a, &b);
+    return edge_of(sample_at(place), sample_at(place + 1), window);
 }
+
+/* ---- a trace through an entry */
 
 /* A trace of so many samples under this trace number, with so many bytes lent beyond its records. */
-static const char *wrong_with_trace(size_t count, uint32_t whose, size_t spare)
-{
-    const size_t length = RECORD * (count - 1) + spare;
-    uint8_t *const out = lend(length);
-    const umb_trace_answer given = umb_cut_trace(samples, 2 * count, window, whose, out, length);
-    umb_trace_answer counted = {.number = UMB_DONE};
+typedef struct asked {
+    size_t count;
+    uint32_t whose;
+    size_t spare;
+} asked;
 
-    for (; counted.edges + 1 < count; counted.edges++) {
-        const umb_cut cut = umb_clip_edge(sample_at(counted.edges), sample_at(counted.edges + 1), window);
-        if (!is_record(out + RECORD * counted.edges, cut.number, whose, cut.a, cut.b))
-            return "each record is the answer for its edge, under the trace's number";
-        counted.kept += cut.number == UMB_DONE;
-        counted.missed += cut.number == UMB_MISSED;
-        counted.refused += cut.number == UMB_NOT_FINITE;
+/* What an entry answered to it and left. */
+typedef struct left {
+    umb_trace_answer answer;
+    uint8_t bytes[MOST_LENT];
+} left;
+
+static const char *wrong_with_records(const trace_entry *entry, const asked *t, const left *found)
+{
+    umb_trace_answer counted = {.number = UMB_DONE};
+    while (counted.edges + 1 < t->count) {
+        const edge e = edge_at(counted.edges);
+        const umb_cut due = cut_due(&e, entry->keeps_touches);
+        if (!is_record(found->bytes + RECORD * counted.edges, due.number, t->whose, due.a, due.b))
+            return "each record is the answer for its edge, without touches or with them, under the trace's number";
+        counted = with_edge(counted, due.number);
     }
-    if (!same_counts(given, counted))
-        return "the counts are those of the edges";
-    if (counted.kept == 0 || counted.missed == 0 || counted.refused == 0)
-        return "the trace has edges of each kind";
-    if (!untouched(out + length - spare, spare) || !guards_stand(out, length))
-        return "it writes its records alone";
-    return NULL;
+    return same_counts(found->answer, counted) ? NULL : "the counts are those of the edges";
 }
 
-static bool refused(uint8_t number, size_t floats, umb_rect asked, size_t length)
+static const char *wrong_with_trace(const trace_entry *entry, const asked *t, left *found)
 {
+    const size_t length = RECORD * (t->count - 1) + t->spare;
     uint8_t *const out = lend(length);
-    const umb_trace_answer given = umb_cut_trace(samples, floats, asked, some_number, out, length);
-    return same_counts(given, (umb_trace_answer){.number = number}) && untouched(out, length) &&
-           guards_stand(out, length);
+    found->answer = entry->cut(samples, 2 * t->count, window, t->whose, out, length);
+    memcpy(found->bytes, out, length);
+    if (!untouched(out + length - t->spare, t->spare) || !guards_stand(out, length))
+        return "it writes its records alone";
+    return wrong_with_records(entry, t, found);
+}
+
+/* ---- the two entries */
+
+static bool same_record(const left *one, const left *other, size_t place)
+{
+    return memcmp(one->bytes + RECORD * place, other->bytes + RECORD * place, RECORD) == 0;
+}
+
+static bool fewer_by(size_t touches, umb_trace_answer without, umb_trace_answer with)
+{
+    with.kept -= touches;
+    with.missed += touches;
+    return same_counts(without, with);
+}
+
+static const char *wrong_beside(const asked *t, const left *without, const left *with)
+{
+    bool seen[KINDS] = {false};
+    size_t touches = 0;
+    for (size_t i = 0; i + 1 < t->count; i++) {
+        const edge e = edge_at(i);
+        see_kinds(&e, seen);
+        touches += only_touches(&e);
+        if (same_record(without, with, i) == only_touches(&e))
+            return "with touches a record is another exactly where its edge only touches the window";
+    }
+    if (!fewer_by(touches, without->answer, with->answer))
+        return "with touches as many more are kept, and fewer missed, as edges only touch the window";
+    return kind_not_seen(seen);
+}
+
+static const char *wrong_with_both(asked t)
+{
+    static left found[TRACE_ENTRIES];
+    const char *wrong = NULL;
+    for (size_t i = 0; i < TRACE_ENTRIES && wrong == NULL; i++)
+        wrong = wrong_with_trace(&trace_entries[i], &t, &found[i]);
+    return wrong != NULL ? wrong : wrong_beside(&t, &found[0], &found[1]);
+}
+
+/* ---- refusals */
+
+static bool refused(uint8_t number, size_t floats, umb_rect to, size_t length)
+{
+    for (size_t i = 0; i < TRACE_ENTRIES; i++) {
+        uint8_t *const out = lend(length);
+        const umb_trace_answer given = trace_entries[i].cut(samples, floats, to, some_number, out, length);
+        if (!same_counts(given, (umb_trace_answer){.number = number}) || !untouched(out, length) ||
+            !guards_stand(out, length))
+            return false;
+    }
+    return true;
 }
 
 static const char *wrong_with_refusals(void)
@@ -114,15 +135,14 @@ static const char *wrong_with_refusals(void)
 const char *wrong_with_long_traces(void)
 {
     static double before[2 * (LIMIT + 1)];
-    for (size_t i = 0; i < 2 * (LIMIT + 1); i++)
-        samples[i] = coordinate(i);
+    make_samples(samples, LIMIT + 1);
     memcpy(before, samples, sizeof before);
 
-    const char *wrong = wrong_with_trace(LIMIT, 0, 0);
+    const char *wrong = wrong_with_both((asked){LIMIT, 0, 0});
     if (wrong == NULL)
-        wrong = wrong_with_trace(LIMIT, some_number, 1);
+        wrong = wrong_with_both((asked){LIMIT, some_number, 1});
     if (wrong == NULL)
-        wrong = wrong_with_trace(LIMIT - 1, some_number, RECORD);
+        wrong = wrong_with_both((asked){LIMIT - 1, some_number, RECORD});
     if (wrong == NULL)
         wrong = wrong_with_refusals();
     if (wrong == NULL && memcmp(before, samples, sizeof before) != 0)

@@ -1,19 +1,21 @@
 /* Answers requests by the library: 192 bytes each on standard input, a line each on standard output. Beside the lines
  * it checks what no line shows, and ends with 1 where one of these fails: zeros stand beside any number but 0, the same
  * call gives the same answer, a walk and a trace leave alone what was not lent to them, the records of traces that are
- * longer than a request can hold are the answers for their edges, two engines' records in one buffer are the same
- * bytes whichever are written first, and no float is cut that is beyond 2^500. */
+ * longer than a request can hold are the answers for their edges, an edge that only touches its window is dropped
+ * unless touches are asked for, two engines' records in one buffer are the same bytes whichever are written first, and
+ * no float is cut that is beyond 2^500. */
 #include "calls.h"
 #include "engines.h"
 #include "limit.h"
 #include "line.h"
 #include "long_trace.h"
+#include "touches.h"
 #include "trace.h"
 #include "walk.h"
 
 #include <stdio.h>
 
-enum { WALK = 60, TRACE = 61, TORN_INPUT = 9, NO_SUCH_OPERATION = 255 };
+enum { WALK = 60, TORN_INPUT = 9, NO_SUCH_OPERATION = 255 };
 
 /* A call with a buffer of this length lent to it. */
 typedef lent lent_call(const request *r, size_t length);
@@ -71,7 +73,7 @@ static void answer_request(const request *r)
 {
     if (r->words[0] == WALK)
         answer_lent(r, walk, walk_length(r));
-    else if (r->words[0] == TRACE)
+    else if (entry_for(r) != NULL)
         answer_lent(r, trace, trace_length(r));
     else
         answer_call(r);
@@ -97,6 +99,7 @@ int main(void)
     if (length > 0)
         write_number(TORN_INPUT);
     must_be_null(wrong_with_long_traces(), "long traces");
+    must_be_null(wrong_with_touches(), "touches");
     must_be_null(wrong_with_two_engines(), "two engines");
     must_be_null(wrong_about_the_limit(), "the limit");
     return all_hold && !ferror(stdin) && fflush(stdout) == 0 ? 0 : 1;

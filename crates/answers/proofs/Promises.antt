@@ -2,6 +2,7 @@
 use Prim.Native.Nat.{ℕ, zero, suc, _+_, _/_, _%_}
 use native.Mathlib.Omega.{arith}
 use mathlib.Core.Path.{_≡_, refl, _∙_}
+use mathlib.Core.Bool.{Bool, true, false}
 use mathlib.Core.List.{List, [], _∷_}
 use lib.Dec.{eqb, leb}
 use lib.ListN.{length}
@@ -67,14 +68,15 @@ ends-walk : (s : List ℕ) → lineEnds (walkLine s) ≡ 1
 unfolding walkLine walkLineOn walkedLine
 ends-walk s = ends-shown _ _ _ _
 
-ends-trace : (s : List ℕ) → lineEnds (traceLine s) ≡ 1
+ends-trace : (touches : Bool) (s : List ℕ) → lineEnds (traceLine touches s) ≡ 1
 unfolding traceLine traceLineOn tracedLine
-ends-trace s = ends-shown _ _ _ _
+ends-trace touches s = ends-shown _ _ _ _
 
 ends-line : (s : List ℕ) → lineEnds (lineOf s) ≡ 1
 unfolding lineOf
 ends-line s =
-    cases Ended (eqb (wordOf s 0) 60) _ _ (λ h. ends-walk s) (λ h. cases Ended (eqb (wordOf s 0) 61) _ _ (λ k. ends-trace s) (λ k. ends-reply _))
+    cases Ended (eqb (wordOf s 0) 60) _ _ (λ h. ends-walk s)
+    (λ h. cases Ended (eqb (wordOf s 0) 61) _ _ (λ k. ends-trace false s) (λ k. cases Ended (eqb (wordOf s 0) 62) _ _ (λ l. ends-trace true s) (λ l. ends-reply _)))
 
 ends-torn : lineEnds tornLine ≡ 1
 unfolding numberText lineEnds when_then_else_

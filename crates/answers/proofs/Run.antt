@@ -2,6 +2,7 @@
 use Prim.Native.Nat.{ℕ, zero, suc, _+_, _-_, _*_, _≤_, _<_}
 use native.Mathlib.Omega.{arith}
 use mathlib.Core.Path.{_≡_, refl, sym, ap, _∙_}
+use mathlib.Core.Bool.{true, false}
 use mathlib.Core.List.{List, [], _∷_, _++_}
 use lib.ListN.{length, set, getD, length-append}
 use Rattle.float.proofs.Choice.{when-eq, when-ne}
@@ -70,10 +71,17 @@ pub line-walk : (s : List ℕ) (w : ℕ) → w ≡ wordOf s 0 → w ≡ 60 → w
 unfolding lineOf
 line-walk s w e h = when-eq _ _ _ _ _ (sym e ∙ h) refl
 
-pub line-trace : (s : List ℕ) (w : ℕ) → w ≡ wordOf s 0 → (w ≡ 60 → ⊥) → w ≡ 61 → traceLine s ≡ lineOf s
+pub line-trace : (s : List ℕ) (w : ℕ) → w ≡ wordOf s 0 → (w ≡ 60 → ⊥) → w ≡ 61 → traceLine false s ≡ lineOf s
 unfolding lineOf
 line-trace s w e h g = when-ne _ _ _ _ _ (λ k. h (e ∙ k)) (when-eq _ _ _ _ _ (sym e ∙ g) refl)
 
-pub line-reply : (s : List ℕ) (w : ℕ) (r : Reply) → w ≡ wordOf s 0 → (w ≡ 60 → ⊥) → (w ≡ 61 → ⊥) → r ≡ replyOf s → replyLine r ≡ lineOf s
+pub line-touches : (s : List ℕ) (w : ℕ) → w ≡ wordOf s 0 → w ≡ 62 → traceLine true s ≡ lineOf s
 unfolding lineOf
-line-reply s w r e h g f = when-ne _ _ _ _ _ (λ k. h (e ∙ k)) (when-ne _ _ _ _ _ (λ k. g (e ∙ k)) (ap replyLine f))
+line-touches s w e g =
+    let o : wordOf s 0 ≡ 62 = sym e ∙ g in
+    when-ne (wordOf s 0) 60 _ _ _ (λ k. omega arith) (when-ne (wordOf s 0) 61 _ _ _ (λ k. omega arith) (when-eq (wordOf s 0) 62 _ _ _ o refl))
+
+pub line-reply : (s : List ℕ) (w : ℕ) (r : Reply) → w ≡ wordOf s 0 → (w ≡ 60 → ⊥) → (w ≡ 61 → ⊥) → (w ≡ 62 → ⊥) → r ≡ replyOf s → replyLine r ≡ lineOf s
+unfolding lineOf
+line-reply s w r e h g t f =
+    when-ne _ _ _ _ _ (λ k. h (e ∙ k)) (when-ne _ _ _ _ _ (λ k. g (e ∙ k)) (when-ne _ _ _ _ _ (λ k. t (e ∙ k)) (ap replyLine f)))

@@ -2,6 +2,7 @@
 use Prim.Native.Nat.{ℕ, zero, suc, _+_, _-_, _*_, _≤_, _<_}
 use native.Mathlib.Omega.{arith}
 use mathlib.Core.Path.{_≡_, refl, sym, ap, _∙_}
+use mathlib.Core.Bool.{Bool}
 use mathlib.Core.List.{List, [], _∷_, _++_}
 use lib.Ieee.{Float}
 use lib.ListN.{length, set, getD, take, length-append}
@@ -108,11 +109,11 @@ pub walk-whole : (s : List ℕ) (n : ℕ) → n ≡ wordUpTo s 10 400 → walkLi
 unfolding walkLine
 walk-whole s n e = rw e
 
-pub trace-line : (xs s bs : List ℕ) (t : TraceAnswer) (n : ℕ) (fs : List Float) (w : Rect) (o : ℕ) → fs ≡ floatsOf s → n ≡ wordUpTo s 1 16 → w ≡ rectAt s 3 → o ≡ whoseAt s 23
-    → t ≡ answerOf (take n fs) w (length xs) → bs ≡ bufferAfter xs (take n fs) w o → tracedLine t bs ≡ traceLineOn xs s
+pub trace-line : (touches : Bool) (xs s bs : List ℕ) (t : TraceAnswer) (n : ℕ) (fs : List Float) (w : Rect) (o : ℕ) → fs ≡ floatsOf s → n ≡ wordUpTo s 1 16 → w ≡ rectAt s 3 → o ≡ whoseAt s 23
+    → t ≡ answerOf touches (take n fs) w (length xs) → bs ≡ bufferAfter touches xs (take n fs) w o → tracedLine t bs ≡ traceLineOn touches xs s
 unfolding traceLineOn
-trace-line xs s bs t n fs w o ef en ew eo et eb = rw (et, eb, ef, en, ew, eo)
+trace-line touches xs s bs t n fs w o ef en ew eo et eb = rw (et, eb, ef, en, ew, eo)
 
-pub trace-whole : (s : List ℕ) (n : ℕ) → n ≡ wordUpTo s 2 400 → traceLineOn (lent n) s ≡ traceLine s
+pub trace-whole : (touches : Bool) (s : List ℕ) (n : ℕ) → n ≡ wordUpTo s 2 400 → traceLineOn touches (lent n) s ≡ traceLine touches s
 unfolding traceLine
-trace-whole s n e = rw e
+trace-whole touches s n e = rw e

@@ -1,5 +1,6 @@
 -- The lines: the number and, beside 0, a space and 16 lower-case hex digits for each word. A last part under 192 bytes writes 9.
 use Prim.Native.Nat.{ℕ}
+use mathlib.Core.Bool.{true, false}
 use mathlib.Core.List.{List, [], _∷_, _++_}
 use lib.Dec.{eqb, leb}
 use Rattle.float.specs.Choice.{when_then_else_}
@@ -19,11 +20,12 @@ atMostEight n = when leb n 8 then n else 8
 unfoldable pub replyLine : Reply → List ℕ
 replyLine r = numberText (r .number) ++ (groupsFrom (r .words) 0 (atMostEight (r .count)) ++ (10 ∷ []))
 
--- the line of a request: 60 and 61 have their own
+-- the line of a request: 60, 61 and 62 have their own
 unfoldable pub lineOf : List ℕ → List ℕ
 lineOf s =
     when eqb (wordOf s 0) 60 then walkLine s
-    else when eqb (wordOf s 0) 61 then traceLine s
+    else when eqb (wordOf s 0) 61 then traceLine false s
+    else when eqb (wordOf s 0) 62 then traceLine true s
     else replyLine (replyOf s)
 
 -- 9, for a last part under 192 bytes

@@ -102,7 +102,7 @@ lineOp op s =
     else when eqb op 55 then faceReply (nextFaceOrRefusal (numberAt s 1) (uvAt s 2) (axisAt s 4) (vectorAt s 5) (numberAt s 8))
     else unlisted
 
--- the reply to a request, for every operation but 60 and 61
+-- the reply to a request, for every operation but 60, 61 and 62
 unfoldable pub replyOf : List ℕ → Reply
 replyOf s =
     let op = wordOf s 0 in

@@ -1,5 +1,6 @@
--- Operation 61: the line of a trace on a lent buffer. It shows the number, the counts and the buffer after.
+-- Operations 61 and 62: the line of a trace on a lent buffer, without touches and with them. It shows the number, the counts and the buffer after.
 use Prim.Native.Nat.{ℕ}
+use mathlib.Core.Bool.{Bool}
 use mathlib.Core.List.{List, [], _∷_}
 use lib.Ieee.{Float}
 use lib.ListN.{length, take}
@@ -18,11 +19,11 @@ floatsOf s =
     ∷ floatAt s 15 ∷ floatAt s 16 ∷ floatAt s 17 ∷ floatAt s 18 ∷ floatAt s 19 ∷ floatAt s 20 ∷ floatAt s 21 ∷ floatAt s 22 ∷ []
 
 -- the trace of a request on the buffer xs: as many floats as asked, 16 at the most, and the trace number after all of them
-unfoldable pub traceLineOn : List ℕ → List ℕ → List ℕ
-traceLineOn xs s =
+unfoldable pub traceLineOn : Bool → List ℕ → List ℕ → List ℕ
+traceLineOn touches xs s =
     let fs = take (wordUpTo s 1 16) (floatsOf s) in
     let w = rectAt s 3 in
-    tracedLine (answerOf fs w (length xs)) (bufferAfter xs fs w (whoseAt s 23))
+    tracedLine (answerOf touches fs w (length xs)) (bufferAfter touches xs fs w (whoseAt s 23))
 
-unfoldable pub traceLine : List ℕ → List ℕ
-traceLine s = traceLineOn (lent (wordUpTo s 2 400)) s
+unfoldable pub traceLine : Bool → List ℕ → List ℕ
+traceLine touches s = traceLineOn touches (lent (wordUpTo s 2 400)) s

@@ -50,7 +50,10 @@ fn put_line(out: &mut [u8], to: usize, s: &[u8]) -> usize
         return walked::put_walk(out, to, s);
     }
     if op == 61 {
-        return traced::put_trace(out, to, s);
+        return traced::put_trace(false, out, to, s);
+    }
+    if op == 62 {
+        return traced::put_trace(true, out, to, s);
     }
     put_reply(out, to, table::reply_of(s))
 }

@@ -3,7 +3,7 @@
 use Prim.Native.Nat.{ℕ, zero, suc}
 use mathlib.Core.Path.{_≡_, refl, sym, ap, subst, _∙_}
 use mathlib.Core.Bool.{Bool, true, false, not, true≢false}
-use lib.Ieee.{Float, lt, le, eq, unlike}
+use lib.Ieee.{Float, lt, eq, unlike}
 use Rattle.float.specs.Choice.{when_then_else_, _and_}
 use Rattle.float.proofs.Choice.{then-is, else-is, cases, and-parts, and-both}
 use Rattle.float.proofs.Order.{Num, finite-num, le-refl, le-trans, le-eq, lt-le-trans, le-lt-trans, le-not-lt, lt-le, eq-le}
@@ -37,6 +37,7 @@ use Rattle.clip.proofs.Numbers.{fine-parts}
 use Rattle.clip.proofs.Held.{Fit, line-num, held-within}
 use Rattle.clip.proofs.Values.{along-both, first-some}
 use Rattle.clip.proofs.Turns.{four-sides}
+use Rattle.clip.proofs.OwnLine.{own-line}
 
 -- ---- the order as seen from either end
 up-trans : (d : Bool) (x y z : Float) → upTo d x y ≡ true → upTo d y z ≡ true → upTo d x z ≡ true
@@ -232,10 +233,13 @@ module _ (high : Bool) (t u : Axis) (n : Bool) (x : Axes t u n) where
   abbrev side : Float
   side = endOf (t .clip) high
 
+  side-in : Asked high (t .bound) (t .clip) → In (between (t .a) (t .b)) side
+  side-in q = part-in _ _ _ (x .this) (asked-in high (t .bound) (t .clip) (x .this .some) q)
+
   -- where a side cuts, the ends differ and the side lies between them: the value is the line's, held
   value-held : Asked high (t .bound) (t .clip) → (eq (t .a) (t .b) ≡ false) × (valueAt side (t .a) (t .b) (u .a) (u .b) ≡ heldIn Heights (onLine side (t .a) (t .b) (u .a) (u .b)))
   unfolding valueAt
-  value-held q = (apart, sym (else-is _ _ _ _ apart (then-is _ _ _ _ (plane .holds-in _ _ .1 (part-in _ _ _ (x .this) (asked-in high (t .bound) (t .clip) (x .this .some) q))) refl)))
+  value-held q = (apart, sym (else-is _ _ _ _ apart (then-is _ _ _ _ (plane .holds-in _ _ .1 (side-in q)) refl)))
     where
       apart : eq (t .a) (t .b) ≡ false
       apart = go (eq (t .a) (t .b)) refl
@@ -248,7 +252,7 @@ module _ (high : Bool) (t u : Axis) (n : Bool) (x : Axes t u n) where
   unfolding lineMoved when_then_else_
   moved-same q =
       let (apart, held) = value-held q in
-      go (eq (u .a) (u .b)) refl (line-num (x .at-this high) apart) ∙ ap (movedEnd (u .bound) (unlike high n)) (sym held)
+      rw (own-line (x .at-this high) (side-in q)) (go (eq (u .a) (u .b)) refl (line-num (x .at-this high) apart) ∙ ap (movedEnd (u .bound) (unlike high n)) (sym held))
     where
       v : Float
       v = onLine side (t .a) (t .b) (u .a) (u .b)

@@ -1,8 +1,9 @@
--- The same cut side by side, as the code's one loop goes: so many sides in turn, the axes changing places after each high one. In the edge's own box a value of the line is held only where it would lose the edge; proofs/OwnBox.antt has why that is the same. No entry's contract and no promise cites it: a reader of those can pass it over.
+-- The same cut side by side, as the code's one loop goes: so many sides in turn, the axes changing places after each high one. In the edge's own box a value of the line is held only where it would lose the edge, and the nearer end is told without magnitudes; proofs/OwnBox.antt and proofs/OwnLine.antt have why that is the same. No entry's contract and no promise cites it: a reader of those can pass it over.
 use Prim.Native.Nat.{ℕ, zero, suc}
 use mathlib.Core.Bool.{Bool, true, false, not}
-use lib.Ieee.{Float, lt, eq, unlike}
+use lib.Ieee.{Float, lt, le, eq, unlike}
 use Rattle.float.specs.Choice.{when_then_else_, _and_}
+use Rattle.float.specs.Float.{_⊖_}
 use Rattle.plane.specs.Interval.{endOf}
 use Rattle.plane.specs.Rect.{_by_}
 use Rattle.plane.specs.declared.point.Point.{Point}
@@ -16,7 +17,7 @@ use Rattle.clip.specs.declared.compute.AxisCut.{AxisCut}
 use Rattle.clip.specs.declared.compute.AxisCut.the-variants.{Left, Gone}
 use Rattle.clip.specs.declared.compute.BoxCut.{BoxCut}
 use Rattle.clip.specs.declared.compute.BoxCut.the-variants.{Inside, Outside}
-use Rattle.clip.specs.Cut.{onLine, valueAt, inward, movedEnd, sideWith}
+use Rattle.clip.specs.Cut.{fromEnd, valueAt, inward, movedEnd, sideWith}
 
 abbrev pub axisWith : Float → Float → Interval → Interval → Axis
 axisWith a b bound clip = record { a = a; b = b; bound = bound; clip = clip }
@@ -31,6 +32,15 @@ axisY a b window box = axisWith (a .y) (b .y) (box .y) (window .y)
 -- the axis with what is left of its bound
 abbrev pub boundedBy : Axis → Interval → Axis
 boundedBy t i = axisWith (t .a) (t .b) i (t .clip)
+
+-- ---- the line's value in the edge's own box: x lies from a to b, in either order
+
+-- whether a is the nearer end
+unfoldable pub aNearer : Float → Float → Float → Bool
+aNearer x a b = when lt b a then le (a ⊖ x) (x ⊖ b) else le (x ⊖ a) (b ⊖ x)
+
+unfoldable pub ownLine : Float → Float → Float → Float → Float → Float
+ownLine x a b a1 b1 = when aNearer x a b then fromEnd x a b a1 b1 else fromEnd x b a b1 a1
 
 -- ---- an end moved to the line's value
 
@@ -52,7 +62,7 @@ ownMoved i high v own =
 unfoldable pub lineMoved : Bool → Bool → Axis → Axis → Bool → Moved
 lineMoved own high this other end =
     let side = endOf (this .clip) high in
-    when own then ownMoved (other .bound) end (onLine side (this .a) (this .b) (other .a) (other .b)) (ownEnd high this other)
+    when own then ownMoved (other .bound) end (ownLine side (this .a) (this .b) (other .a) (other .b)) (ownEnd high this other)
     else movedEnd (other .bound) end (valueAt side (this .a) (this .b) (other .a) (other .b))
 
 -- ---- the sides

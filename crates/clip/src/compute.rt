@@ -1,8 +1,8 @@
 // What the entries compute: any float goes in, NaN and infinities too, and nothing is refused.
 ghost use mathlib.Core.Path.{_≡_};
 ghost use mathlib.Core.Bool.{false};
-ghost use Rattle.clip.specs.Cut.{onLine, heldIn, valueAt, inward, withEnd, movedEnd, axisCut, negativeSlope, otherMoved, offLine, crossed, edgeMeets};
-ghost use Rattle.clip.specs.Turns.{axisWith, axisX, axisY, ownEnd, stayed, ownMoved, lineMoved, turnCut, sidesCut};
+ghost use Rattle.clip.specs.Cut.{fromEnd, onLine, heldIn, valueAt, inward, withEnd, movedEnd, axisCut, negativeSlope, otherMoved, offLine, crossed, edgeMeets};
+ghost use Rattle.clip.specs.Turns.{axisWith, axisX, axisY, aNearer, ownLine, ownEnd, stayed, ownMoved, lineMoved, turnCut, sidesCut};
 use plane::Interval;
 use plane::Point;
 use plane::Rect;
@@ -161,7 +161,7 @@ fn move_to_line(own: bool, high: bool, this: Axis, other: Axis, high_endpoint: b
 {
     let side = this.clip.at_end(high);
     if own {
-        let value = on_line(side, this.a, this.b, other.a, other.b);
+        let value = on_own_line(side, this.a, this.b, other.a, other.b);
         return update_own(
             other.bound,
             high_endpoint,
@@ -301,9 +301,36 @@ fn on_line(x: f64, a: f64, b: f64, a1: f64, b1: f64) -> f64
     ensures { λ r. ⌜ r ≡ onLine x a b a1 b1 ⌝ }
 {
     if float::magnitude(a - x) <= float::magnitude(b - x) {
-        return a1 + (b1 - a1) * (x - a) / (b - a);
+        return from_end(x, a, b, a1, b1);
     }
-    b1 + (a1 - b1) * (x - b) / (a - b)
+    from_end(x, b, a, b1, a1)
+}
+
+// The same for x from a to b, in either order.
+fn on_own_line(x: f64, a: f64, b: f64, a1: f64, b1: f64) -> f64
+    ensures { λ r. ⌜ r ≡ ownLine x a b a1 b1 ⌝ }
+{
+    if a_is_nearer(x, a, b) {
+        return from_end(x, a, b, a1, b1);
+    }
+    from_end(x, b, a, b1, a1)
+}
+
+// Whether a is the nearer end, for x from a to b, in either order: the way from the lower end and the way to the higher are
+// no less than 0, so that no magnitude is to be taken.
+fn a_is_nearer(x: f64, a: f64, b: f64) -> bool
+    ensures { λ r. ⌜ r ≡ aNearer x a b ⌝ }
+{
+    if b < a {
+        return a - x <= x - b;
+    }
+    x - a <= b - x
+}
+
+fn from_end(x: f64, a: f64, b: f64, a1: f64, b1: f64) -> f64
+    ensures { λ r. ⌜ r ≡ fromEnd x a b a1 b1 ⌝ }
+{
+    a1 + (b1 - a1) * (x - a) / (b - a)
 }
 
 // The value, or the end of i that it passed.

@@ -30,4 +30,5 @@ pub mod Errors
 pub mod Laws
 pub mod UpTo
 pub mod Bounded
+pub mod Distance
 pub mod Summands

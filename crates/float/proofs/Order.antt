@@ -237,6 +237,16 @@ eq-le x y e = go (le x y) (le y x) refl refl (sym (eq-both x y) ∙ e)
     go true false h k e = absurd (false≢true e)
     go false q h k e = absurd (false≢true e)
 
+no-less : (p q : Bool) → (not q || not p) ≡ not (p && q)
+no-less true true = refl
+no-less true false = refl
+no-less false true = refl
+no-less false false = refl
+
+-- of two numbers that are not equal one is less
+pub one-less : (x y : Float) → Num x → Num y → (lt x y || lt y x) ≡ not (eq x y)
+one-less x y n m = rw (lt-turned x y n m, lt-turned y x m n, eq-both x y) (no-less (le x y) (le y x))
+
 pub lt-le-trans : (x y z : Float) → lt x y ≡ true → le y z ≡ true → lt x z ≡ true
 lt-le-trans x y z p q = go (le z x) refl
   where

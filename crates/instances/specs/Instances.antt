@@ -1,8 +1,8 @@
 -- Document 01's instances marked P, as the change requests have them, and the limits of what is admitted, one table under a single statement, over the entries' own definitions, which their contracts cite.
 use mathlib.Core.Path.{_≡_}
 use Prim.Native.Nat.{ℕ}
-use mathlib.Core.Bool.{true, false}
-use mathlib.Core.List.{List, [], _∷_}
+use mathlib.Core.Bool.{Bool, true, false}
+use mathlib.Core.List.{List, [], _∷_, _++_}
 use lib.ListN.{replicate}
 use lib.Ieee.{Float}
 use Rattle.plane.specs.Point.{at}
@@ -18,6 +18,8 @@ use Rattle.line.specs.Entries.{sumEqualOrRefusal, meetsFaceOrRefusal, oppositeE
 use Rattle.line.specs.declared.compute.Axis.the-variants.{«V»}
 use Rattle.walk.specs.Answers.{walkOrRefusal, bufferAfter}
 use Rattle.walk.specs.declared.compute.WalkAnswer.{WalkAnswer}
+use Rattle.trace.specs.Answers as trace
+use Rattle.trace.specs.declared.TraceAnswer.{TraceAnswer}
 use Rattle.instances.specs.Numbers.{n0, -n0, -n1, tiny, n2+, n¼, n½, n¾, n1, n1½, n2, n3, n4, most, most+, huge, -huge, notANumber, x_to_y_to_}
 
 -- an edge's answer: its number, and the kept points or zeros
@@ -40,6 +42,16 @@ up = vec n0 n0 n1
 
 abbrev pub walked : ℕ → Vector → ℕ → ℕ → WalkAnswer
 walked bytes n f t = walkOrRefusal bytes f middle t middle n
+
+-- the trace of one edge in P3's window, with touches or without, room for its record lent
+abbrev pub traced : Bool → Float → Float → Float → Float → TraceAnswer
+traced touches ax ay bx by = trace.answerOf touches (ax ∷ ay ∷ bx ∷ by ∷ []) (x n1 to n2 y n1 to n2) 40
+
+abbrev pub oneKept : TraceAnswer
+oneKept = record { number = 0; kept = 1; missed = 0; refused = 0; edges = 1 }
+
+abbrev pub oneMissed : TraceAnswer
+oneMissed = record { number = 0; kept = 0; missed = 1; refused = 0; edges = 1 }
 
 -- P13's records: the faces 0, 1 and 3, each with three zero bytes after it and then whose it is; a float of 0, 1 or -1 is its last two bytes after six zeros
 abbrev pub word : ℕ → ℕ → List ℕ → List ℕ
@@ -65,6 +77,11 @@ pub record Instances : Type 0 where
   pub p2 : told (clipped (at n0 n2) (at n4 n0) (x n1 to n3 y n0 to n2)) ≡ keptFrom n1 n1½ n3 n½
   -- (0,0)-(1,1), x 1..2, y 1..2
   pub p3 : told (clipped (at n0 n0) (at n1 n1) (x n1 to n2 y n1 to n2)) ≡ keptFrom n1 n1 n1 n1
+  -- the same as a trace: it only touches, and its record is a miss's; with touches it is kept; and so is an edge of no length at the corner, by both
+  pub p3-dropped : traced false n0 n0 n1 n1 ≡ oneMissed
+  pub p3-bytes : trace.bufferAfter false (replicate 41 165) (n0 ∷ n0 ∷ n1 ∷ n1 ∷ []) (x n1 to n2 y n1 to n2) 0 ≡ 1 ∷ (replicate 39 0 ++ (165 ∷ []))
+  pub p3-touches : traced true n0 n0 n1 n1 ≡ oneKept
+  pub p3-no-length : traced false n1 n1 n1 n1 ≡ oneKept
   -- (0,0)-(1,1), x 0..0.25, y 0.75..1: missed, and edge_intersects_rect says no
   pub p4 : told (clipped (at n0 n0) (at n1 n1) (x n0 to n¼ y n¾ to n1)) ≡ only 1
   pub p4-meets : meetsOrRefusal (at n0 n0) (at n1 n1) (x n0 to n¼ y n¾ to n1) ≡ record { number = 0; yes = false }

@@ -56,6 +56,11 @@ between-equal a b e = let (p, q) = eq-le a b e in three (λ (i : Interval). i �
     none : {A : Type 0} (x y : Float) → le y x ≡ true → lt x y ≡ true → A
     none x y p q = absurd (true≢false (sym q ∙ le-not-lt y x p))
 
+-- where b is the lesser the two change places
+pub between-down : (a b : Float) → lt b a ≡ true → between a b ≡ from b to a
+unfolding between lesser greater when_then_else_
+between-down a b h = rw (h, le-not-lt b a (lt-le b a h))
+
 -- ---- the ends that a and b take: a's is a itself; b's is b, or where they compare equal, a
 pub a-end : (a b : Float) → endOf (between a b) (lt b a) ≡ a
 unfolding between lesser greater endOf when_then_else_

@@ -14,10 +14,11 @@ use Rattle.answer.specs.Answer.{beside}
 use Rattle.plane.specs.Point.{at, origin}
 use Rattle.plane.specs.declared.rect.Rect.{Rect}
 use Rattle.clip.specs.Refuse.{windowFine}
-use Rattle.trace.specs.Trace.{traceCuts}
+use Rattle.trace.specs.Trace.{samplesOf}
 use Rattle.trace.specs.Refuse.{traceFine, roomFor, inOrder}
 use Rattle.trace.specs.Answers.{answerOf, bufferAfter}
 use Rattle.trace.specs.declared.TraceAnswer.{TraceAnswer}
+use Rattle.trace.proofs.Cuts.{length-cuts}
 use Rattle.run_trace.specs.Samples.{ownFloats, lastSample}
 
 -- edges are counted only where they fit
@@ -28,8 +29,9 @@ counted edges bytes true true false h = omega arith
 counted edges bytes true false r h = omega arith
 counted edges bytes false q r h = omega arith
 
-pub within : (fs : List Float) (w : Rect) (bytes : ℕ) (a : TraceAnswer) → a ≡ answerOf fs w bytes → a .edges * 40 ≤ bytes
-within fs w bytes a e = rw e (counted (length (traceCuts true w fs)) bytes (traceFine (length fs)) (windowFine w) _ refl)
+pub within : (touches : Bool) (fs : List Float) (w : Rect) (bytes : ℕ) (a : TraceAnswer) → a ≡ answerOf touches fs w bytes → a .edges * 40 ≤ bytes
+within touches fs w bytes a e =
+    rw (e, length-cuts touches w (samplesOf fs)) (counted (length (samplesOf fs) - 1) bytes (traceFine (length fs)) (windowFine w) _ refl)
 
 -- ---- a piece's own floats
 module _ (carried : Bool) (fs : List Float) where
@@ -49,13 +51,18 @@ module _ (carried : Bool) (fs : List Float) where
   pub own-none : carried ≡ false → length fs < 2 → [] ≡ ownFloats carried fs
   own-none e h = let l : length fs ≤ 2 = omega arith in sym (drop-of-length-le fs l) ∙ after-two e
 
-abbrev pub CutOf : Rect → ℕ → List ℕ → List ℕ → TraceAnswer → List Float → Type 0
-CutOf w whose xs ys a gs = (a ≡ answerOf gs w (length xs)) × ((ys ≡ bufferAfter xs gs w whose) × (a .edges * 40 ≤ length xs))
+abbrev pub CutOf : Bool → Rect → ℕ → List ℕ → List ℕ → TraceAnswer → List Float → Type 0
+CutOf touches w whose xs ys a gs = (a ≡ answerOf touches gs w (length xs)) × ((ys ≡ bufferAfter touches xs gs w whose) × (a .edges * 40 ≤ length xs))
+
+-- by the entry that the flag asks for
+pub cut-with : (touches t : Bool) (w : Rect) (whose : ℕ) (xs ys : List ℕ) (a : TraceAnswer) (gs : List Float) → touches ≡ t
+    → (a ≡ answerOf t gs w (length xs)) × (ys ≡ bufferAfter t xs gs w whose) → CutOf touches w whose xs ys a gs
+cut-with touches t w whose xs ys a gs e (p, q) = subst (λ (u : Bool). CutOf u w whose xs ys a gs) (sym e) (p, (q, within t gs w (length xs) a p))
 
 -- what holds of the floats that were cut holds of the piece
-pub of-piece : (carried : Bool) (fs gs : List Float) (w : Rect) (whose : ℕ) (xs ys : List ℕ) (a : TraceAnswer) → gs ≡ ownFloats carried fs
-    → CutOf w whose xs ys a gs → CutOf w whose xs ys a (ownFloats carried fs)
-of-piece carried fs gs w whose xs ys a e = subst (CutOf w whose xs ys a) e
+pub of-piece : (touches carried : Bool) (fs gs : List Float) (w : Rect) (whose : ℕ) (xs ys : List ℕ) (a : TraceAnswer) → gs ≡ ownFloats carried fs
+    → CutOf touches w whose xs ys a gs → CutOf touches w whose xs ys a (ownFloats carried fs)
+of-piece touches carried fs gs w whose xs ys a e = subst (CutOf touches w whose xs ys a) e
 
 -- ---- the last sample
 pub last-none : (fs : List Float) → length fs < 2 → origin ≡ lastSample fs

@@ -6,15 +6,14 @@ use native.Mathlib.Numerals.{add-one}
 use mathlib.Core.Path.{_≡_, refl, sym, ap, _∙_}
 use mathlib.Core.Bool.{Bool, true, false}
 use mathlib.Core.List.{List, [], _∷_}
-use lib.Dec.{leb}
 use lib.ListN.{length, drop, getD, drop-of-length-le}
 use lib.Pow.{pow-add}
 use lib.Seq.{drop-cons}
 use borrow.Author.Tests.{le-leb, lt-leb}
 use Rattle.float.specs.Choice.{when_then_else_, _and_}
 use Rattle.float.proofs.Choice.{then-is, else-is, and-both}
-use Rattle.run_trace.specs.declared.words.Asked.the-variants.{Number, NoNumber}
-use Rattle.run_trace.specs.Words.{isDigit, allDigits, valueAfter, value, isNumber, askedBy}
+use Rattle.run_trace.specs.declared.words.Word.the-variants.{Number, Other}
+use Rattle.run_trace.specs.Words.{isDigit, allDigits, valueAfter, value, isNumber, numberIn}
 
 not-first : (p q : Bool) → p ≡ false → (p and q) ≡ false
 not-first p q e = sym (else-is p false q false e refl)
@@ -26,17 +25,17 @@ not-second false q e = refl
 
 -- ---- what a word asks for, by what is found of it
 module _ (s : List ℕ) where
-  none : isNumber s ≡ false → NoNumber ≡ askedBy s
-  unfolding askedBy
+  none : isNumber s ≡ false → Other ≡ numberIn s
+  unfolding numberIn
   none e = else-is _ _ _ _ e refl
 
-  pub empty : length s ≡ 0 → NoNumber ≡ askedBy s
+  pub empty : length s ≡ 0 → Other ≡ numberIn s
   empty h = none (not-first _ _ (not-first _ _ (lt-leb 1 (length s) (omega arith))))
 
-  pub too-long : 10 < length s → NoNumber ≡ askedBy s
+  pub too-long : 10 < length s → Other ≡ numberIn s
   too-long h = none (not-first _ _ (not-second _ _ (lt-leb (length s) 10 h)))
 
-  not-digits : allDigits s ≡ false → NoNumber ≡ askedBy s
+  not-digits : allDigits s ≡ false → Other ≡ numberIn s
   not-digits e = none (not-second _ _ (not-first _ _ e))
 
 -- ---- the first i digits make n
@@ -68,14 +67,14 @@ module _ {s : List ℕ} {i n : ℕ} (r : Read s i n) where
   next : i < length s → drop i s ≡ getD s i 0 ∷ drop (i + 1) s
   next h = rw (add-one i) (drop-cons s i 0 h)
 
-  no-digit : i < length s → isDigit (getD s i 0) ≡ false → NoNumber ≡ askedBy s
+  no-digit : i < length s → isDigit (getD s i 0) ≡ false → Other ≡ numberIn s
   unfolding allDigits
   no-digit h e = not-digits s (sym (r .digits) ∙ ap allDigits (next h) ∙ not-first _ _ e)
 
-  pub too-low : i < length s → getD s i 0 < 48 → NoNumber ≡ askedBy s
+  pub too-low : i < length s → getD s i 0 < 48 → Other ≡ numberIn s
   too-low h l = no-digit h (digit-low _ l)
 
-  pub too-high : i < length s → 57 < getD s i 0 → NoNumber ≡ askedBy s
+  pub too-high : i < length s → 57 < getD s i 0 → Other ≡ numberIn s
   too-high h l = no-digit h (digit-high _ l)
 
   pub one-more : i < length s → 48 ≤ getD s i 0 → getD s i 0 ≤ 57 → (m : ℕ) → m ≡ n * 10 + (getD s i 0 - 48) → Read s (i + 1) m
@@ -104,11 +103,11 @@ module _ {s : List ℕ} {i n : ℕ} (r : Read s i n) where
     unfolding valueAfter
     value-is = sym (r .value) ∙ ap (valueAfter n) none-left
 
-    pub too-great : 4294967295 < n → NoNumber ≡ askedBy s
+    pub too-great : 4294967295 < n → Other ≡ numberIn s
     too-great g = none s (not-second _ _ (not-second _ _ (lt-leb (value s) 4294967295 (omega (arith, value-is)))))
 
-    pub number : n ≤ 4294967295 → Number n ≡ askedBy s
-    unfolding askedBy
+    pub number : n ≤ 4294967295 → Number n ≡ numberIn s
+    unfolding numberIn
     number g =
         then-is _ _ _ _
         (and-both _ _ (and-both _ _ (le-leb 1 (length s) (r .some)) (le-leb (length s) 10 (r .few))) (and-both _ _ all-digits (le-leb (value s) 4294967295 (omega (arith, value-is)))))

@@ -45,14 +45,14 @@ module _ (p : Point) (s : List ℕ) (k : ℕ) (z : Float) (two : List Float) (n 
       rw (all, read) (front two s r ∙ ap (_++ floatsOf s) first)
 
   -- what was cut of it is the piece
-  pub cut-of : (carried : Bool) (w : Rect) (whose : ℕ) (xs ys : List ℕ) (a : TraceAnswer)
-      → CutOf w whose xs ys a (ownFloats carried (take n out)) → CutOf w whose xs ys a (pieceFloats carried p s)
-  cut-of carried w whose xs ys a = subst (CutOf w whose xs ys a) (ap (ownFloats carried) filled ∙ own-is carried p s)
+  pub cut-of : (touches carried : Bool) (w : Rect) (whose : ℕ) (xs ys : List ℕ) (a : TraceAnswer)
+      → CutOf touches w whose xs ys a (ownFloats carried (take n out)) → CutOf touches w whose xs ys a (pieceFloats carried p s)
+  cut-of touches carried w whose xs ys a = subst (CutOf touches w whose xs ys a) (ap (ownFloats carried) filled ∙ own-is carried p s)
 
   pub last-of : (q : Point) → q ≡ lastSample (take n out) → q ≡ lastAfter p s
   last-of q h = h ∙ ap lastSample filled
 
 -- the answer for some bytes is that for the same bytes
-pub same-bytes : (carried : Bool) (p : Point) (w : Rect) (k : ℕ) (s t : List ℕ) (a : TraceAnswer)
-    → a ≡ answerOf (pieceFloats carried p s) w k → s ≡ t → a ≡ answerOf (pieceFloats carried p t) w k
-same-bytes carried p w k s t a h e = rw e at h
+pub same-bytes : (touches carried : Bool) (p : Point) (w : Rect) (k : ℕ) (s t : List ℕ) (a : TraceAnswer)
+    → a ≡ answerOf touches (pieceFloats carried p s) w k → s ≡ t → a ≡ answerOf touches (pieceFloats carried p t) w k
+same-bytes touches carried p w k s t a h e = rw e at h

@@ -6,3 +6,4 @@ pub mod Filled
 pub mod Blocks
 pub mod Promises
 pub mod Digits
+pub mod Letters

@@ -4,7 +4,7 @@ use native.Mathlib.Omega.{arith}
 use native.Mathlib.Nat.{add-zero}
 use native.Mathlib.Numerals.{add-one}
 use mathlib.Core.Path.{_≡_, refl, sym, ap, subst, _∙_}
-use mathlib.Core.Bool.{true}
+use mathlib.Core.Bool.{Bool}
 use mathlib.Core.List.{List, [], _∷_, _++_, append-assoc, append-nil}
 use lib.Ieee.{Float, nan, binary64, ofBits}
 use lib.ListN.{length, set, length-set, take, drop, getD, length-append, length-drop, take-append-drop, drop-of-length-le}
@@ -113,26 +113,26 @@ last-split fs h =
     let c : lastSample fs .x ∷ lastSample fs .y ∷ [] ≡ drop n fs = cc in
     ap (take n fs ++_) c ∙ take-append-drop n fs
 
-joins-at : (w : Rect) (fs gs : List Float) → length fs % 2 ≡ 0 → 2 ≤ length fs
-    → Joined (traceCuts true w (fs ++ gs)) (traceCuts true w fs) (traceCuts true w (after (lastSample fs) gs))
-joins-at w fs gs e h =
+joins-at : (touches : Bool) (w : Rect) (fs gs : List Float) → length fs % 2 ≡ 0 → 2 ≤ length fs
+    → Joined (traceCuts touches w (fs ++ gs)) (traceCuts touches w fs) (traceCuts touches w (after (lastSample fs) gs))
+joins-at touches w fs gs e h =
     let p = lastSample fs in
     let front = take (length fs - 2) fs in
     let all : front ++ (p .x ∷ p .y ∷ []) ≡ fs = last-split fs h in
     let more : front ++ (p .x ∷ p .y ∷ gs) ≡ fs ++ gs = sym (append-assoc front (p .x ∷ p .y ∷ []) gs) ∙ ap (_++ gs) all in
-    let rest = traceCuts true w (after p gs) in
-    let j = joins true w front gs (p .x) (p .y) (omega (arith, length-take-le (length fs - 2) fs (omega arith))) in
-    subst (λ (l : List Float). Joined (traceCuts true w l) (traceCuts true w fs) rest) more
-    (subst (λ (l : List Float). Joined (traceCuts true w (front ++ (p .x ∷ p .y ∷ gs))) (traceCuts true w l) rest) all j)
+    let rest = traceCuts touches w (after p gs) in
+    let j = joins touches w front gs (p .x) (p .y) (omega (arith, length-take-le (length fs - 2) fs (omega arith))) in
+    subst (λ (l : List Float). Joined (traceCuts touches w l) (traceCuts touches w fs) rest) more
+    (subst (λ (l : List Float). Joined (traceCuts touches w (front ++ (p .x ∷ p .y ∷ gs))) (traceCuts touches w l) rest) all j)
 
-pub pieces : (w : Rect) (before : List Float) (s t : List ℕ) → length before % 2 ≡ 0 → length s % 16 ≡ 0 → 16 ≤ length s
-    → Joined (traceCuts true w (before ++ floatsOf (s ++ t)))
-    (traceCuts true w (before ++ floatsOf s))
-    (traceCuts true w (after (lastSample (before ++ floatsOf s)) (floatsOf t)))
-pieces w before s t b e h =
+pub pieces : (touches : Bool) (w : Rect) (before : List Float) (s t : List ℕ) → length before % 2 ≡ 0 → length s % 16 ≡ 0 → 16 ≤ length s
+    → Joined (traceCuts touches w (before ++ floatsOf (s ++ t)))
+    (traceCuts touches w (before ++ floatsOf s))
+    (traceCuts touches w (after (lastSample (before ++ floatsOf s)) (floatsOf t)))
+pieces touches w before s t b e h =
     let fs = before ++ floatsOf s in
     let l = length-append before (floatsOf s) in
     let n = length-floats s 0 (floatsIn s) in
     let all : fs ++ floatsOf t ≡ before ++ floatsOf (s ++ t) = append-assoc before (floatsOf s) (floatsOf t) ∙ ap (before ++_) (sym (floats-join s t e)) in
-    subst (λ (gs : List Float). Joined (traceCuts true w gs) (traceCuts true w fs) (traceCuts true w (after (lastSample fs) (floatsOf t)))) all
-    (joins-at w fs (floatsOf t) (omega (arith, l, n)) (omega (arith, l, n)))
+    subst (λ (gs : List Float). Joined (traceCuts touches w gs) (traceCuts touches w fs) (traceCuts touches w (after (lastSample fs) (floatsOf t)))) all
+    (joins-at touches w fs (floatsOf t) (omega (arith, l, n)) (omega (arith, l, n)))

@@ -35,10 +35,10 @@ bytesFor carried edges = when carried then 16 * edges else 16 * edges + 16
 
 -- the answer for the edges whose records were written whole, where so many bytes of a piece's records were: the piece's
 -- own, or that of the samples which these edges join
-abbrev pub writtenOf : TraceAnswer → ℕ → Bool → Point → List ℕ → Rect → ℕ → TraceAnswer
-writtenOf a taken carried p s w bytes =
+abbrev pub writtenOf : Bool → TraceAnswer → ℕ → Bool → Point → List ℕ → Rect → ℕ → TraceAnswer
+writtenOf touches a taken carried p s w bytes =
     when leb (a .edges) (taken / 40) then a
-    else answerOf (pieceFloats carried p (take (bytesFor carried (taken / 40)) s)) w bytes
+    else answerOf touches (pieceFloats carried p (take (bytesFor carried (taken / 40)) s)) w bytes
 
 -- ---- an input in blocks: all but the last are whole samples, one at the least
 unfoldable pub Blocks : List (List ℕ) → Type 0
@@ -51,14 +51,16 @@ joinedBlocks [] = []
 joinedBlocks (s ∷ ss) = s ++ joinedBlocks ss
 
 -- the records of each block's piece; the first block carries no sample over, and every other the last one before it
-unfoldable pub recordsOfBlocks : ℕ → Rect → Bool → Point → List (List ℕ) → List ℕ
-recordsOfBlocks whose w carried p [] = []
-recordsOfBlocks whose w carried p (s ∷ ss) = recordsOf whose (traceCuts true w (pieceFloats carried p s)) ++ recordsOfBlocks whose w true (lastAfter p s) ss
+unfoldable pub recordsOfBlocks : Bool → ℕ → Rect → Bool → Point → List (List ℕ) → List ℕ
+recordsOfBlocks touches whose w carried p [] = []
+recordsOfBlocks touches whose w carried p (s ∷ ss) =
+    recordsOf whose (traceCuts touches w (pieceFloats carried p s)) ++ recordsOfBlocks touches whose w true (lastAfter p s) ss
 
 -- how many of their edges are of a kind
-unfoldable pub countOfBlocks : (Clipped → Bool) → Rect → Bool → Point → List (List ℕ) → ℕ
-countOfBlocks is w carried p [] = 0
-countOfBlocks is w carried p (s ∷ ss) = howMany is (traceCuts true w (pieceFloats carried p s)) + countOfBlocks is w true (lastAfter p s) ss
+unfoldable pub countOfBlocks : Bool → (Clipped → Bool) → Rect → Bool → Point → List (List ℕ) → ℕ
+countOfBlocks touches is w carried p [] = 0
+countOfBlocks touches is w carried p (s ∷ ss) =
+    howMany is (traceCuts touches w (pieceFloats carried p s)) + countOfBlocks touches is w true (lastAfter p s) ss
 
 -- ---- the counts with those of one more answer; they wrap at 2^64
 abbrev pub withAnswer : Counts → TraceAnswer → Counts

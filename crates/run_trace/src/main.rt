@@ -1,6 +1,6 @@
 // Cuts a trace of any length: a window and then samples on standard input, a record for each edge on
-// standard output, and on standard error what there is to say. The trace number of the records is the
-// word that it is started with, or 0.
+// standard output, and on standard error what there is to say. The words that it is started with are the
+// trace number of the records, else 0, and `touches`, where edges that only touch the window are wanted.
 //
 // The input is worked through in pieces of up to 4,096 samples, each but the first beginning with the
 // last sample of the piece before it. By the join law their records, one after the other, are those of
@@ -19,6 +19,7 @@ use plane::Rect;
 use stream::Run;
 use trace::TraceAnswer;
 use words::Asked;
+use words::Word;
 
 // Of the edges whose records were written.
 struct Counts {
@@ -81,17 +82,26 @@ fn say_torn(bytes: usize) -> bool {
 }
 
 // Reads up to 4,095 samples and writes the records of their edges.
-fn next_piece(window: Rect, whose: u32, before: Progress) -> Progress {
+fn next_piece(touches: bool, window: Rect, whose: u32, before: Progress) -> Progress {
     let carried = before.carried;
     let sample = before.last;
     let mut bytes = [0u8; 65520];
     let got = stream::read_full(STDIN_FILENO, &mut bytes);
     let n = got.bytes;
     let mut records = [0u8; 163800];
-    let cut = piece::cut_piece(carried, sample, &bytes[..n], window, whose, &mut records);
+    let cut = piece::cut_piece(
+        touches,
+        carried,
+        sample,
+        &bytes[..n],
+        window,
+        whose,
+        &mut records,
+    );
     let size = cut.answer.edges * 40;
     let taken = stream::write_all(STDOUT_FILENO, &records[..size]);
     let answer = piece::written(
+        touches,
         cut.answer,
         taken,
         carried,
@@ -113,7 +123,7 @@ fn next_piece(window: Rect, whose: u32, before: Progress) -> Progress {
 }
 
 // The pieces one after the other, to the end of the input or to a failure.
-fn cut_all(window: Rect, whose: u32) -> Progress {
+fn cut_all(touches: bool, window: Rect, whose: u32) -> Progress {
     let mut so_far = Progress {
         carried: false,
         last: Point { x: 0.0, y: 0.0 },
@@ -123,7 +133,7 @@ fn cut_all(window: Rect, whose: u32) -> Progress {
     };
     let mut pieces = u64::MAX;
     while 0 < pieces && so_far.run.more {
-        so_far = next_piece(window, whose, so_far);
+        so_far = next_piece(touches, window, whose, so_far);
         pieces -= 1;
     }
     so_far
@@ -146,7 +156,7 @@ fn end(run: Run, said: bool) {
 }
 
 // The records of the trace of this number, of what is on standard input.
-fn run(whose: u32) {
+fn run(touches: bool, whose: u32) {
     let mut head = [0u8; 32];
     let got = stream::read_full(STDIN_FILENO, &mut head);
     let begun = Run::new().with(0, got.failed, false, false);
@@ -175,35 +185,43 @@ fn run(whose: u32) {
         );
         return;
     }
-    let at_end = cut_all(window, whose);
+    let at_end = cut_all(touches, window, whose);
     end(at_end.run, say_all(at_end));
 }
 
-// What the word asks for; trace 0 without one. A word that does not fit here is too long for a number, and
-// comes with the length 0.
-fn asked() -> Asked {
-    if os::arg_count() < 2 {
-        return Asked::Number(0);
-    }
+// A word. One that does not fit here is none that there is, and comes with the length 0.
+fn word_at(place: usize) -> Word {
     let mut word = [0u8; 16];
-    let n = os::arg(1, &mut word);
-    words::asked_by(&word[..n])
+    let n = os::arg(place, &mut word);
+    words::word_of(&word[..n])
 }
 
-// Says what is wrong with the words, and ends.
-fn refuse(why: &[u8]) {
-    stream::end_refused(io::write_all(STDERR_FILENO, why));
+// What the words ask for; trace 0, without touches, where there is none.
+fn asked() -> Asked {
+    let count = os::arg_count();
+    if count < 2 {
+        return Asked::Records(0, false);
+    }
+    if count == 2 {
+        return words::of_one(word_at(1));
+    }
+    if count == 3 {
+        return words::of_two(word_at(1), word_at(2));
+    }
+    Asked::Nothing
+}
+
+// Says what the words may be, and ends.
+fn refuse() {
+    stream::end_refused(io::write_all(
+        STDERR_FILENO,
+        b"trace: the words may be a trace number, up to 4294967295 in ten digits at the most, and touches, in either order\n",
+    ));
 }
 
 fn main() {
-    if 2 < os::arg_count() {
-        refuse(b"trace: there is more than one word: a trace number is all that it takes\n");
-        return;
-    }
     match asked() {
-        Asked::Number(whose) => run(whose),
-        Asked::NoNumber => refuse(
-            b"trace: the word is no trace number: ten digits at the most, up to 4294967295\n",
-        ),
+        Asked::Records(whose, touches) => run(touches, whose),
+        Asked::Nothing => refuse(),
     }
 }

@@ -19,6 +19,7 @@ pub struct Piece {
 // The samples in bytes, up to 4,095; the first edge is from the sample before them, where one is carried
 // over.
 pub(crate) fn cut_piece(
+    touches: bool,
     carried: bool,
     before: Point,
     bytes: &[u8],
@@ -27,8 +28,8 @@ pub(crate) fn cut_piece(
     records: &mut [u8],
 ) -> Piece
     requires { ⌜ length (now bytes) ≤ 65520 ⌝ }
-    ensures answer { λ r. ⌜ r .answer ≡ answerOf (pieceFloats carried before (now (bytes .entry))) window (length (now (records .entry))) ⌝ }
-    ensures bytes { λ _. ⌜ now (records .exit) ≡ bufferAfter (now (records .entry)) (pieceFloats carried before (now (bytes .entry))) window whose ⌝ }
+    ensures answer { λ r. ⌜ r .answer ≡ answerOf touches (pieceFloats carried before (now (bytes .entry))) window (length (now (records .entry))) ⌝ }
+    ensures bytes { λ _. ⌜ now (records .exit) ≡ bufferAfter touches (now (records .entry)) (pieceFloats carried before (now (bytes .entry))) window whose ⌝ }
     ensures last { λ r. ⌜ r .last ≡ lastAfter before (now (bytes .entry)) ⌝ }
     ensures room { λ r. ⌜ r .answer .edges * 40 ≤ length (now (records .entry)) ⌝ }
 {
@@ -36,7 +37,7 @@ pub(crate) fn cut_piece(
     floats[0] = before.x;
     floats[1] = before.y;
     let n = samples::put_samples(bytes, &mut floats);
-    let answer = cut_floats(&floats[..n], carried, window, whose, records);
+    let answer = cut_floats(touches, &floats[..n], carried, window, whose, records);
     Piece {
         answer,
         last: last_sample(&floats[..n]),
@@ -46,6 +47,7 @@ pub(crate) fn cut_piece(
 // The answer for the edges of a piece whose records were written whole, where so many bytes of the records
 // were: that of the samples which these edges join.
 pub(crate) fn written(
+    touches: bool,
     answer: TraceAnswer,
     taken: usize,
     carried: bool,
@@ -55,7 +57,7 @@ pub(crate) fn written(
     records: &mut [u8],
 ) -> TraceAnswer
     requires { ⌜ length (now bytes) ≤ 65520 ⌝ }
-    ensures { λ r. ⌜ r ≡ writtenOf answer taken carried before (now (bytes .entry)) window (length (now (records .entry))) ⌝ }
+    ensures { λ r. ⌜ r ≡ writtenOf touches answer taken carried before (now (bytes .entry)) window (length (now (records .entry))) ⌝ }
 {
     let edges = taken / 40;
     if answer.edges <= edges {
@@ -63,7 +65,7 @@ pub(crate) fn written(
     }
     let n = at_most(bytes_for(carried, edges), bytes);
     // The answer alone is asked for, and that is the same for every trace number.
-    cut_piece(carried, before, &bytes[..n], window, 0, records).answer
+    cut_piece(touches, carried, before, &bytes[..n], window, 0, records).answer
 }
 
 // A sample for each edge, and one more where none is carried over.
@@ -89,31 +91,35 @@ fn at_most(n: usize, bytes: &[u8]) -> usize
 
 // The first two floats are the sample that is carried over, or stand for nothing.
 fn cut_floats(
+    touches: bool,
     floats: &[f64],
     carried: bool,
     window: Rect,
     whose: u32,
     records: &mut [u8],
 ) -> TraceAnswer
-    ensures answer { λ r. ⌜ r ≡ answerOf (ownFloats carried (now (floats .entry))) window (length (now (records .entry))) ⌝ }
-    ensures bytes { λ _. ⌜ now (records .exit) ≡ bufferAfter (now (records .entry)) (ownFloats carried (now (floats .entry))) window whose ⌝ }
+    ensures answer { λ r. ⌜ r ≡ answerOf touches (ownFloats carried (now (floats .entry))) window (length (now (records .entry))) ⌝ }
+    ensures bytes { λ _. ⌜ now (records .exit) ≡ bufferAfter touches (now (records .entry)) (ownFloats carried (now (floats .entry))) window whose ⌝ }
     ensures room { λ r. ⌜ r .edges * 40 ≤ length (now (records .entry)) ⌝ }
 {
     if carried {
-        return cut(floats, window, whose, records);
+        return cut(touches, floats, window, whose, records);
     }
     if floats.len() < 2 {
-        return cut(&floats[..0], window, whose, records);
+        return cut(touches, &floats[..0], window, whose, records);
     }
-    cut(&floats[2..], window, whose, records)
+    cut(touches, &floats[2..], window, whose, records)
 }
 
 // What is counted fits in what was lent.
-fn cut(floats: &[f64], window: Rect, whose: u32, records: &mut [u8]) -> TraceAnswer
-    ensures answer { λ r. ⌜ r ≡ answerOf (now (floats .entry)) window (length (now (records .entry))) ⌝ }
-    ensures bytes { λ _. ⌜ now (records .exit) ≡ bufferAfter (now (records .entry)) (now (floats .entry)) window whose ⌝ }
+fn cut(touches: bool, floats: &[f64], window: Rect, whose: u32, records: &mut [u8]) -> TraceAnswer
+    ensures answer { λ r. ⌜ r ≡ answerOf touches (now (floats .entry)) window (length (now (records .entry))) ⌝ }
+    ensures bytes { λ _. ⌜ now (records .exit) ≡ bufferAfter touches (now (records .entry)) (now (floats .entry)) window whose ⌝ }
     ensures room { λ r. ⌜ r .edges * 40 ≤ length (now (records .entry)) ⌝ }
 {
+    if touches {
+        return trace::cut_trace_with_touches(floats, window, whose, records);
+    }
     trace::cut_trace(floats, window, whose, records)
 }
 

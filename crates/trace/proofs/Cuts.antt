@@ -2,7 +2,7 @@
 use Prim.Native.Nat.{ℕ, suc, _+_, _-_, _*_, _/_, _≤_, _<_}
 use native.Mathlib.Omega.{arith}
 use mathlib.Core.Path.{_≡_, refl, ap, _∙_}
-use mathlib.Core.Bool.{Bool, true, false}
+use mathlib.Core.Bool.{Bool}
 use mathlib.Core.List.{List, [], _∷_}
 use lib.Ieee.{Float}
 use lib.ListN.{length}
@@ -25,7 +25,7 @@ length-samples (x ∷ []) = refl
 length-samples (x ∷ y ∷ fs) = omega (arith, length-samples fs)
 
 module _ (touches : Bool) (w : Rect) where
-  length-from : (a : Point) (ps : List Point) → length (cutsFrom touches w a ps) ≡ length ps
+  pub length-from : (a : Point) (ps : List Point) → length (cutsFrom touches w a ps) ≡ length ps
   unfolding cutsFrom
   length-from a [] = refl
   length-from a (b ∷ ps) = ap suc (length-from b ps)

@@ -15,13 +15,13 @@ use Rattle.buffer.specs.Bytes.{stored, followedBy}
 use Rattle.buffer.proofs.Stored.{stored-front}
 use Rattle.plane.specs.declared.rect.Rect.{Rect}
 use Rattle.clip.specs.Refuse.{windowFine}
-use Rattle.trace.specs.Trace.{traceCuts}
+use Rattle.trace.specs.Trace.{samplesOf, traceCuts}
 use Rattle.trace.specs.Records.{recordsOf, isKept, isMissed, isRefused, howMany}
 use Rattle.trace.specs.Inner.{Admitted}
 use Rattle.trace.specs.Refuse.{traceFine, roomFor, inOrder, traceNumber}
 use Rattle.trace.specs.Answers.{noEdges, traceAnswer, answerOf, bufferAfter}
 use Rattle.trace.specs.declared.TraceAnswer.{TraceAnswer}
-use Rattle.trace.proofs.Cuts.{length-trace, length-records}
+use Rattle.trace.proofs.Cuts.{length-samples, length-cuts, length-records}
 
 -- nothing is refused
 pub admitted : (trace window room : Bool) → inOrder trace window room ≡ 0 → (trace ≡ true) × (window ≡ true) × (room ≡ true)
@@ -31,7 +31,7 @@ admitted trace window room e =
 
 module _ (fs : List Float) (w : Rect) (n bytes : ℕ) (d : n ≡ inOrder (traceFine (length fs)) (windowFine w) (roomFor (length fs / 2 - 1) bytes)) where
   number-is : n ≡ traceNumber fs w bytes
-  number-is = d ∙ ap (λ (k : ℕ). inOrder (traceFine (length fs)) (windowFine w) (roomFor k bytes)) (sym (length-trace true w fs))
+  number-is = d ∙ ap (λ (k : ℕ). inOrder (traceFine (length fs)) (windowFine w) (roomFor (k - 1) bytes)) (sym (length-samples fs))
 
   -- what the records need: their own bytes, which are among those lent
   pub fits : n ≡ 0 → (edges : ℕ) → edges ≡ length fs / 2 - 1 → Admitted fs w (edges * 40) × (edges * 40 ≤ bytes)
@@ -41,7 +41,7 @@ module _ (fs : List Float) (w : Rect) (n bytes : ℕ) (d : n ≡ inOrder (traceF
       let even : length fs % 2 ≡ 0 = eqb-true _ _ p in
       let few : length fs / 2 ≤ 4096 = leb-true _ _ q in
       let room : length fs / 2 - 1 ≤ bytes / 40 = leb-true _ _ r in
-      (record { even = even; few = omega arith; fine = f; room = omega (arith, length-trace true w fs) }, omega arith)
+      (record { even = even; few = omega arith; fine = f; room = omega (arith, length-samples fs) }, omega arith)
 
 -- bytes stored over a part in front, and then those after it
 in-front : (xs bs : List ℕ) (m : ℕ) → length bs ≡ m → m ≤ length xs → stored (take m xs) 0 bs ++ drop m xs ≡ followedBy bs xs
@@ -53,23 +53,23 @@ in-front xs bs m e h =
     let a : stored (take m xs) 0 bs ≡ bs = f ∙ ap (bs ++_) g ∙ append-nil bs in
     ap (_++ drop m xs) a ∙ ap (λ (k : ℕ). bs ++ drop k xs) (sym e)
 
-module _ (fs : List Float) (w : Rect) (whose : ℕ) (xs ys : List ℕ) (n : ℕ) (d : n ≡ inOrder (traceFine (length fs)) (windowFine w) (roomFor (length fs / 2 - 1) (length xs))) where
+module _ (touches : Bool) (fs : List Float) (w : Rect) (whose : ℕ) (xs ys : List ℕ) (n : ℕ) (d : n ≡ inOrder (traceFine (length fs)) (windowFine w) (roomFor (length fs / 2 - 1) (length xs))) where
   abbrev Left : TraceAnswer → Type 0
-  Left r = (r ≡ answerOf fs w (length xs)) × (ys ≡ bufferAfter xs fs w whose)
+  Left r = (r ≡ answerOf touches fs w (length xs)) × (ys ≡ bufferAfter touches xs fs w whose)
 
   pub refused : (n ≡ 0 → ⊥) → ys ≡ xs → Left (noEdges n)
   unfolding bufferAfter
   refused z u =
       let e = number-is fs w n (length xs) d in
-      let cs = traceCuts true w fs in
+      let cs = traceCuts touches w fs in
       let o : (v : ℕ) → _≡_ {A = ℕ} 0 (beside (traceNumber fs w (length xs)) v 0) = λ v. ask-other n (traceNumber fs w (length xs)) 0 v 0 e z refl in
       (cc (e, o (howMany isKept cs), o (howMany isMissed cs), o (howMany isRefused cs), o (length cs)), ask-other n _ ys _ xs e z u)
 
-  pub cut : n ≡ 0 → (edges : ℕ) → edges ≡ length fs / 2 - 1 → (r : TraceAnswer) → r ≡ traceAnswer 0 (traceCuts true w fs)
-      → (zs : List ℕ) → zs ≡ stored (take (edges * 40) xs) 0 (recordsOf whose (traceCuts true w fs)) → ys ≡ zs ++ drop (edges * 40) xs → Left r
+  pub cut : n ≡ 0 → (edges : ℕ) → edges ≡ length fs / 2 - 1 → (r : TraceAnswer) → r ≡ traceAnswer 0 (traceCuts touches w fs)
+      → (zs : List ℕ) → zs ≡ stored (take (edges * 40) xs) 0 (recordsOf whose (traceCuts touches w fs)) → ys ≡ zs ++ drop (edges * 40) xs → Left r
   unfolding bufferAfter
   cut z edges g r a zs u v =
       let e = number-is fs w n (length xs) d in
       let (f, h) = fits fs w n (length xs) d z edges g in
-      let b = v ∙ ap (_++ drop (edges * 40) xs) u ∙ in-front xs (recordsOf whose (traceCuts true w fs)) (edges * 40) (length-records whose (traceCuts true w fs) ∙ f .room) h in
-      (a ∙ ap (λ (m : ℕ). traceAnswer m (traceCuts true w fs)) (sym z ∙ e), ask-done n _ ys _ xs e z b)
+      let b = v ∙ ap (_++ drop (edges * 40) xs) u ∙ in-front xs (recordsOf whose (traceCuts touches w fs)) (edges * 40) (length-records whose (traceCuts touches w fs) ∙ ap (_* 40) (length-cuts touches w (samplesOf fs)) ∙ f .room) h in
+      (a ∙ ap (λ (m : ℕ). traceAnswer m (traceCuts touches w fs)) (sym z ∙ e), ask-done n _ ys _ xs e z b)

@@ -1,5 +1,6 @@
 -- Laws that the proofs of this crate cite, and the promises.
 pub mod OneEdge
+pub mod Touch
 pub mod Cuts
 pub mod Writing
 pub mod Exits
@@ -7,4 +8,5 @@ pub mod Joins
 pub mod Lent
 pub mod Own
 pub mod OwnEnd
+pub mod Untouched
 pub mod Promises

@@ -8,7 +8,8 @@ use lib.Dec.{T}
 use lib.Ieee.{Float, lt, le, unlike, isNan}
 use Rattle.float.specs.Choice.{when_then_else_, _and_}
 use Rattle.float.proofs.Choice.{then-is, else-is}
-use Rattle.float.proofs.Order.{le-num}
+use Rattle.float.specs.Float.{finite}
+use Rattle.float.proofs.Order.{finite-num, le-num}
 use Rattle.answer.proofs.Beside.{beside-done, beside-other}
 use Rattle.plane.specs.Rect.{boxOf}
 use Rattle.plane.specs.declared.point.Point.{Point}
@@ -25,10 +26,10 @@ use Rattle.clip.specs.declared.Clipped.{Clipped}
 use Rattle.clip.specs.declared.Clipped.the-variants.{Kept, Missed, Refused}
 use Rattle.clip.proofs.AtOnce.{AllFit}
 use Rattle.clip.proofs.OwnBox.{own-answer}
-use Rattle.clip.proofs.Promises.{promises}
+use Rattle.clip.proofs.Promises.{good, promises}
 use Rattle.buffer.specs.Bytes.{placed}
-use Rattle.record.specs.Record.{Ends, recordBytes}
-use Rattle.trace.specs.Inner.{keptWith, Numbers}
+use Rattle.record.specs.Record.{recordBytes}
+use Rattle.trace.specs.Inner.{keptWith, Number, Numbers, LiveEnds}
 use Rattle.trace.specs.Records.{noEnds, endsOf, cutBytes, isKept, isRefused}
 
 -- ---- what is refused
@@ -89,6 +90,15 @@ runs a b w t f left down n en l d = own-answer a b w t f n (en ∙ slope)
 number : (x y : Float) → le x y ≡ true → T (not (isNan y))
 number x y h = subst (λ (t : Bool). T (not t)) (sym (le-num x y h .1)) tt
 
+-- what is admitted is no NaN
+pub live-ends : (a b : Point) (w : Rect) → Fine a b w → LiveEnds a b
+live-ends a b w f =
+    let g = good a b w f in
+    record { ax = finite-number _ (g .ax); ay = finite-number _ (g .ay); bx = finite-number _ (g .bx); by = finite-number _ (g .by) }
+  where
+    finite-number : (x : Float) → finite x ≡ true → Number x
+    finite-number x h = subst (λ (t : Bool). T (not t)) (sym (finite-num x h)) tt
+
 -- a kept point lies in the window, so it is no NaN
 pub kept-numbers : (a b : Point) (w : Rect) (s : Segment) → clipped a b w ≡ Kept s → Numbers s
 unfolding numberOf pointsOf
@@ -101,44 +111,19 @@ kept-numbers a b w s e =
       by = number _ _ (k .b .y .low);
     }
 
-module _ (c : Clipped) where
-  pub wrote : (n whose to : ℕ) (e : Ends) (xs ys : List ℕ) → n ≡ numberOf c → e ≡ endsOf (pointsOf c)
-      → ys ≡ placed xs to (recordBytes n whose e) → ys ≡ placed xs to (cutBytes whose c)
-  wrote n whose to e xs ys en ee ey = cc
+-- what is written and counted of an edge with the answer c
+module _ (c : Clipped) (kept whose to : ℕ) (xs ys : List ℕ) where
+  abbrev Put : ℕ → Type 0
+  Put n = (n ≡ keptWith kept c) × (ys ≡ placed xs to (cutBytes whose c))
 
-  pub number-kept : (s : Segment) → c ≡ Kept s → 0 ≡ numberOf c
-  unfolding numberOf
-  number-kept s e = rw e
+  pub put-kept : (s : Segment) → c ≡ Kept s → ys ≡ placed xs to (recordBytes 0 whose (endsOf s)) → Put (kept + 1)
+  unfolding numberOf pointsOf isKept when_then_else_
+  put-kept s e h = rw e (refl, h)
 
-  pub number-missed : c ≡ Missed → 1 ≡ numberOf c
-  unfolding numberOf
-  number-missed e = rw e
+  pub put-missed : c ≡ Missed → ys ≡ placed xs to (recordBytes 1 whose noEnds) → Put kept
+  unfolding numberOf pointsOf isKept when_then_else_
+  put-missed e h = rw e (omega arith, h)
 
-  pub number-refused : (n : ℕ) → c ≡ Refused n → n ≡ numberOf c
-  unfolding numberOf
-  number-refused n e = rw e
-
-  pub ends-kept : (s : Segment) → c ≡ Kept s → endsOf s ≡ endsOf (pointsOf c)
-  unfolding pointsOf
-  ends-kept s e = rw e
-
-  pub ends-missed : c ≡ Missed → noEnds ≡ endsOf (pointsOf c)
-  unfolding pointsOf
-  ends-missed e = rw e
-
-  pub ends-refused : (n : ℕ) → c ≡ Refused n → noEnds ≡ endsOf (pointsOf c)
-  unfolding pointsOf
-  ends-refused n e = rw e
-
-  -- ---- and how it counts
-  pub count-kept : (n : ℕ) (s : Segment) → c ≡ Kept s → n + 1 ≡ keptWith n c
-  unfolding isKept when_then_else_
-  count-kept n s e = rw e
-
-  pub count-missed : (n : ℕ) → c ≡ Missed → n ≡ keptWith n c
-  unfolding isKept when_then_else_
-  count-missed n e = rw e (omega arith)
-
-  pub count-refused : (n m : ℕ) → c ≡ Refused m → n ≡ keptWith n c
-  unfolding isKept when_then_else_
-  count-refused n m e = rw e (omega arith)
+  pub put-refused : (n : ℕ) → c ≡ Refused n → ys ≡ placed xs to (recordBytes n whose noEnds) → Put kept
+  unfolding numberOf pointsOf isKept when_then_else_
+  put-refused n e h = rw e (omega arith, h)

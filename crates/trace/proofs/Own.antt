@@ -3,13 +3,13 @@ use Prim.Native.Nat.{ℕ, zero, suc, _+_, _-_, _*_, _≤_, _<_}
 use native.Mathlib.Omega.{arith}
 use native.Mathlib.Numerals.{add-one}
 use mathlib.Core.Path.{_≡_, refl, sym, ap, _∙_}
-use mathlib.Core.Logic.{_↔_}
+use mathlib.Core.Logic.{_↔_, _⊎_, inl, inr}
 use mathlib.Core.Bool.{Bool, true, false}
 use mathlib.Core.List.{List, [], _∷_, append-nil}
 use lib.Dec.{ltb}
-use lib.ListN.{length, take, drop, getD, set, length-set, drop-of-length-le}
-use lib.Seq.{take-at, take-nil, drop-append-add, getD-set-other}
-use Rattle.float.specs.Choice.{when_then_else_, _and_}
+use lib.ListN.{length, take, getD, set, length-set, drop-of-length-le}
+use lib.Seq.{take-nil, getD-set-other}
+use Rattle.float.specs.Choice.{_and_}
 use borrow.Author.Tests.{ltb-true, ltb-false}
 use Rattle.plane.specs.Point.{origin}
 use Rattle.plane.specs.declared.point.Point.{Point}
@@ -18,13 +18,12 @@ use Rattle.record.specs.Record.{headBytes, recordBytes, joined, recordAt}
 use Rattle.record.proofs.Joined.{first-record, next-record}
 use Rattle.clip.specs.Refuse.{pointFine}
 use Rattle.clip.specs.Answers.{clipped, numberOf}
-use Rattle.clip.specs.declared.Segment.{Segment}
 use Rattle.clip.specs.declared.Clipped.{Clipped}
-use Rattle.clip.specs.declared.Clipped.the-variants.{Kept, Missed, Refused}
-use Rattle.trace.specs.Trace.{touching, untouched, edgeCut, cutsFrom, cutsOf}
+use Rattle.trace.specs.Trace.{edgeCut, cutsFrom, cutsOf}
 use Rattle.trace.specs.Records.{cutBytes, recordsOf}
 use Rattle.trace.specs.Promises.{sampleAt}
-use Rattle.trace.proofs.OneEdge.{dead-refused, live}
+use Rattle.trace.proofs.OneEdge.{live}
+use Rattle.trace.proofs.Touch.{Dropped, drawn-or-dropped, dead-edge}
 use Rattle.trace.proofs.Cuts.{length-cuts, length-cut, length-records}
 
 -- ---- record k
@@ -81,33 +80,14 @@ live-number : (a b : Point) (w : Rect) → (pointFine a and pointFine b) ≡ tru
 unfolding numberOf
 live-number a b w p = live (λ c. numberOf c ≡ 2 → ⊥) a b w p (λ s e. omega arith) (λ e. omega arith) (λ e. omega arith)
 
--- a touch is 0 or 1
-touch-number : (t : Bool) (s : Segment) → numberOf (when t then Missed else Kept s) ≡ 2 → ⊥
-unfolding numberOf when_then_else_
-touch-number true s e = omega arith
-touch-number false s e = omega arith
-
-untouched-number : (a b : Point) (c : Clipped) → (numberOf (untouched a b c) ≡ 2) ↔ (numberOf c ≡ 2)
-unfolding untouched numberOf
-untouched-number a b (Kept s) = (λ e. absurd (touch-number (touching a b s) s e), λ e. absurd (omega arith))
-untouched-number a b Missed = (λ e. e, λ e. e)
-untouched-number a b (Refused n) = (λ e. e, λ e. e)
-
-clipped-dead : (a b : Point) (w : Rect) → (numberOf (clipped a b w) ≡ 2) ↔ ((pointFine a and pointFine b) ≡ false)
-unfolding numberOf
-clipped-dead a b w = (go (pointFine a and pointFine b) refl, λ e. sym (ap numberOf (dead-refused a b w e)))
-  where
-    go : (t : Bool) → (pointFine a and pointFine b) ≡ t → numberOf (clipped a b w) ≡ 2 → (pointFine a and pointFine b) ≡ false
-    go true p e = absurd (live-number a b w p e)
-    go false p e = p
-
 edge-dead : (touches : Bool) (w : Rect) (a b : Point) → (numberOf (edgeCut touches w a b) ≡ 2) ↔ ((pointFine a and pointFine b) ≡ false)
-unfolding edgeCut when_then_else_
-edge-dead true w a b = clipped-dead a b w
-edge-dead false w a b =
-    let (p, q) = untouched-number a b (clipped a b w) in
-    let (r, s) = clipped-dead a b w in
-    (λ e. r (p e), λ e. q (s e))
+unfolding numberOf
+edge-dead touches w a b = (go (pointFine a and pointFine b) refl (drawn-or-dropped touches a b w), λ e. sym (ap numberOf (dead-edge touches a b w e)))
+  where
+    go : (t : Bool) → (pointFine a and pointFine b) ≡ t → (edgeCut touches w a b ≡ clipped a b w) ⊎ Dropped touches a b w → numberOf (edgeCut touches w a b) ≡ 2 → (pointFine a and pointFine b) ≡ false
+    go true p (inl d) e = absurd (live-number a b w p (sym (ap numberOf d) ∙ e))
+    go true p (inr d) e = absurd (omega (arith, ap numberOf (d .missed)))
+    go false p d e = p
 
 first-byte : (whose : ℕ) (c : Clipped) → getD (cutBytes whose c) 0 0 ≡ numberOf c
 unfolding recordBytes headBytes

@@ -14,6 +14,7 @@ use Rattle.trace.proofs.Own.{own-samples, two-at-most, dead}
 use Rattle.trace.proofs.OwnEnd.{end-kept, own-asks, kept-near}
 use Rattle.trace.proofs.Joins.{joins}
 use Rattle.trace.proofs.Lent.{lent}
+use Rattle.trace.proofs.Untouched.{untouched-record, fewer}
 
 -- zeros add up too
 sums : (t : Bool) (k m r e : ℕ) → k + m + r ≡ e → (when t then k else 0) + (when t then m else 0) + (when t then r else 0) ≡ (when t then e else 0)
@@ -29,13 +30,15 @@ pub promises : Promises
 promises =
     record {
       edges = length-trace;
-      counts = λ fs w bytes. counts _ _;
+      counts = λ touches fs w bytes. counts _ _;
       own-samples = own-samples;
       two-at-most = two-at-most;
       dead = dead;
-      end-kept = λ whose w ps k l. end-kept w ps k l whose;
+      end-kept = λ touches whose w ps k l. end-kept w ps k l touches whose;
       own-asks = own-asks;
       kept-near = kept-near;
       joins = joins;
       lent = lent;
+      untouched = untouched-record;
+      fewer = fewer;
     }

@@ -1,6 +1,6 @@
 -- The answer for a trace, and what is in the lent buffer after.
 use Prim.Native.Nat.{ℕ}
-use mathlib.Core.Bool.{true}
+use mathlib.Core.Bool.{Bool}
 use mathlib.Core.List.{List}
 use lib.Ieee.{Float}
 use lib.ListN.{length}
@@ -28,10 +28,11 @@ traceAnswer n cs =
       edges = beside n (length cs) 0;
     }
 
--- the answer, with so many bytes lent; touches are kept
-abbrev pub answerOf : List Float → Rect → ℕ → TraceAnswer
-answerOf fs w bytes = traceAnswer (traceNumber fs w bytes) (traceCuts true w fs)
+-- the answer, with so many bytes lent; touches are kept, or not
+abbrev pub answerOf : Bool → List Float → Rect → ℕ → TraceAnswer
+answerOf touches fs w bytes = traceAnswer (traceNumber fs w bytes) (traceCuts touches w fs)
 
 -- with 0 the records, of the trace number that was handed in, followed by the old bytes; with any other number the old bytes
-unfoldable pub bufferAfter : List ℕ → List Float → Rect → ℕ → List ℕ
-bufferAfter xs fs w whose = beside (traceNumber fs w (length xs)) (followedBy (recordsOf whose (traceCuts true w fs)) xs) xs
+unfoldable pub bufferAfter : Bool → List ℕ → List Float → Rect → ℕ → List ℕ
+bufferAfter touches xs fs w whose =
+    beside (traceNumber fs w (length xs)) (followedBy (recordsOf whose (traceCuts touches w fs)) xs) xs

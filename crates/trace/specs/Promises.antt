@@ -6,7 +6,7 @@ use mathlib.Core.Bool.{Bool, true, false}
 use mathlib.Core.List.{List, [], _∷_, _++_}
 use lib.Ieee.{Float}
 use lib.ListN.{length, getD, set}
-use Rattle.float.specs.Choice.{_and_}
+use Rattle.float.specs.Choice.{when_then_else_, _and_}
 use Rattle.answer.specs.Answer.{done, notFinite, beside}
 use Rattle.buffer.specs.Bytes.{followedBy}
 use Rattle.record.specs.Record.{joined, recordAt}
@@ -17,16 +17,17 @@ use Rattle.plane.specs.Within.{InRect}
 use Rattle.plane.specs.declared.point.Point.{Point}
 use Rattle.plane.specs.declared.rect.Rect.{Rect}
 use Rattle.clip.specs.Refuse.{pointFine, windowFine}
-use Rattle.clip.specs.Answers.{numberOf, whole, firstOf, secondOf}
+use Rattle.clip.specs.Answers.{clipped, numberOf, whole, firstOf, secondOf}
 use Rattle.clip.specs.Values.{every, HandedIn, floatsOf, OwnAsks}
 use Rattle.clip.specs.Near.{within, KeptFrom}
 use Rattle.clip.specs.declared.Segment.{Segment}
 use Rattle.clip.specs.declared.Clipped.{Clipped}
-use Rattle.clip.specs.declared.Clipped.the-variants.{Kept}
-use Rattle.trace.specs.Trace.{edgeCut, cutsOf, traceCuts}
+use Rattle.clip.specs.declared.Clipped.the-variants.{Kept, Missed}
+use Rattle.trace.specs.Trace.{samplesOf, samePoint, isTouch, edgeCut, cutsOf, traceCuts}
 use Rattle.trace.specs.Records.{cutEnds, cutBytes, recordsOf, howMany}
 use Rattle.trace.specs.Refuse.{traceNumber}
 use Rattle.trace.specs.Answers.{answerOf, bufferAfter}
+use Rattle.trace.specs.declared.TraceAnswer.{TraceAnswer}
 
 -- sample k
 abbrev pub sampleAt : ℕ → List Point → Point
@@ -59,22 +60,66 @@ pub record KeptNear (whose k : ℕ) (w : Rect) (a b : Point) (bytes : List ℕ) 
   pub first : KeptFrom k a b w a (firstOf points)
   pub second : KeptFrom k a b w (secondOf (whole a b)) (secondOf points)
 
--- what the entry leaves in the buffer xs
-pub record Lent (xs : List ℕ) (fs : List Float) (w : Rect) : Type 0 where
+-- what an entry leaves in the buffer xs
+pub record Lent (touches : Bool) (xs : List ℕ) (fs : List Float) (w : Rect) : Type 0 where
   -- as many bytes as there were
-  pub as-long : (whose : ℕ) → length (bufferAfter xs fs w whose) ≡ length xs
+  pub as-long : (whose : ℕ) → length (bufferAfter touches xs fs w whose) ≡ length xs
+  -- record k, of those that the answer counts, is that of edge k
+  pub records : (whose k : ℕ) → k < answerOf touches fs w (length xs) .edges
+      → recordAt k (bufferAfter touches xs fs w whose) ≡ recordAt k (recordsOf whose (traceCuts touches w fs))
   -- the trace number is in each of the records that the answer counts, and changes no other byte
-  pub numbered : Numbered (bufferAfter xs fs w) (answerOf fs w (length xs) .edges)
+  pub numbered : Numbered (bufferAfter touches xs fs w) (answerOf touches fs w (length xs) .edges)
   -- with number 0 the records are as they were before there was one
-  pub of-none : bufferAfter xs fs w 0
-      ≡ beside (traceNumber fs w (length xs)) (followedBy (joined (λ c. unnumbered (numberOf c) (cutEnds c)) (traceCuts true w fs)) xs) xs
+  pub of-none : bufferAfter touches xs fs w 0
+      ≡ beside (traceNumber fs w (length xs)) (followedBy (joined (λ c. unnumbered (numberOf c) (cutEnds c)) (traceCuts touches w fs)) xs) xs
+
+-- ---- without touches, beside with them
+
+-- the edge from a to b only touches the window
+abbrev pub onlyTouches : Rect → Point → Point → Bool
+onlyTouches w a b = isTouch a b (clipped a b w)
+
+-- how many edges only touch it
+unfoldable pub touchesFrom : Rect → Point → List Point → ℕ
+touchesFrom w a [] = 0
+touchesFrom w a (b ∷ ps) = (when onlyTouches w a b then 1 else 0) + touchesFrom w b ps
+
+unfoldable pub touchesOf : Rect → List Point → ℕ
+touchesOf w [] = 0
+touchesOf w (a ∷ ps) = touchesFrom w a ps
+
+-- two answers, the first without touches, of which there are n
+pub record Fewer (n : ℕ) (without with-them : TraceAnswer) : Type 0 where
+  pub number : without .number ≡ with-them .number
+  pub kept : without .kept + n ≡ with-them .kept
+  pub missed : without .missed ≡ with-them .missed + n
+  pub refused : without .refused ≡ with-them .refused
+  pub edges : without .edges ≡ with-them .edges
+
+-- the bytes are a kept edge's; and it shows a single point only where both a and b are that point
+pub record NoDot (whose : ℕ) (a b : Point) (bytes : List ℕ) : Type 0 where
+  pub points : Segment
+  pub kept : bytes ≡ cutBytes whose (Kept points)
+  pub single : samePoint (firstOf points) (secondOf points) ≡ true
+      → (samePoint a (firstOf points) ≡ true) × (samePoint b (firstOf points) ≡ true)
+
+-- record k of the trace, and its edge from a to b
+pub record Untouched (whose : ℕ) (w : Rect) (ps : List Point) (k : ℕ) (a b : Point) : Type 0 where
+  -- it is another than with touches exactly where the edge only touches the window, and there it is a miss's
+  pub same : recordAt k (recordsOf whose (cutsOf false w ps)) ≡ recordAt k (recordsOf whose (cutsOf true w ps)) ↔ (onlyTouches w a b ≡ false)
+  pub missed : onlyTouches w a b ≡ true → recordAt k (recordsOf whose (cutsOf false w ps)) ≡ cutBytes whose Missed
+  -- kept, it shows no single point unless both samples are that point
+  pub no-dot : getD (recordAt k (recordsOf whose (cutsOf false w ps))) 0 0 ≡ done → NoDot whose a b (recordAt k (recordsOf whose (cutsOf false w ps)))
+  -- an edge that is longer than a point within the window is never dropped
+  pub longer : (s : Segment) → clipped a b w ≡ Kept s → samePoint (firstOf s) (secondOf s) ≡ false
+      → recordAt k (recordsOf whose (cutsOf false w ps)) ≡ cutBytes whose (Kept s)
 
 pub record Promises : Type 0 where
   -- one edge fewer than samples, and none of no sample
   pub edges : (touches : Bool) (w : Rect) (fs : List Float) → length (traceCuts touches w fs) ≡ length fs / 2 - 1
   -- each is kept, missed or refused, in every answer
-  pub counts : (fs : List Float) (w : Rect) (bytes : ℕ)
-      → let r = answerOf fs w bytes in r .kept + r .missed + r .refused ≡ r .edges
+  pub counts : (touches : Bool) (fs : List Float) (w : Rect) (bytes : ℕ)
+      → let r = answerOf touches fs w bytes in r .kept + r .missed + r .refused ≡ r .edges
   -- record k is the one record of the trace of samples k and k + 1
   pub own-samples : (touches : Bool) (whose : ℕ) (w : Rect) (ps : List Point) (k : ℕ) → k + 1 < length ps
       → recordAt k (recordsOf whose (cutsOf touches w ps))
@@ -87,9 +132,10 @@ pub record Promises : Type 0 where
   pub dead : (touches : Bool) (whose : ℕ) (w : Rect) (ps : List Point) (k : ℕ) → k + 1 < length ps
       → (getD (recordAt k (recordsOf whose (cutsOf touches w ps))) 0 0 ≡ notFinite)
       ↔ ((pointFine (sampleAt k ps) and pointFine (sampleAt (k + 1) ps)) ≡ false)
-  -- with touches kept, a live edge of which sample k or k + 1 lies in the window is kept, with that sample as it was
-  pub end-kept : (whose : ℕ) (w : Rect) (ps : List Point) (k : ℕ) → LiveEdge w ps k → InRect w (sampleAt k ps) ⊎ InRect w (sampleAt (k + 1) ps)
-      → KeptEnds whose w (sampleAt k ps) (sampleAt (k + 1) ps) (recordAt k (recordsOf whose (cutsOf true w ps)))
+  -- a live edge of which sample k or k + 1 lies in the window is kept, with that sample as it was, where touches are kept or it does not only touch
+  pub end-kept : (touches : Bool) (whose : ℕ) (w : Rect) (ps : List Point) (k : ℕ) → LiveEdge w ps k → InRect w (sampleAt k ps) ⊎ InRect w (sampleAt (k + 1) ps)
+      → (touches ≡ true) ⊎ (onlyTouches w (sampleAt k ps) (sampleAt (k + 1) ps) ≡ false)
+      → KeptEnds whose w (sampleAt k ps) (sampleAt (k + 1) ps) (recordAt k (recordsOf whose (cutsOf touches w ps)))
   -- record k is that of its edge's own cut, and each value that this asks for lies between the two samples' own coordinates
   pub own-asks : (touches : Bool) (whose : ℕ) (w : Rect) (ps : List Point) (k : ℕ) → LiveEdge w ps k
       → let a = sampleAt k ps in let b = sampleAt (k + 1) ps in
@@ -104,5 +150,10 @@ pub record Promises : Type 0 where
       → Joined (traceCuts touches w (fs ++ (x ∷ y ∷ gs)))
       (traceCuts touches w (fs ++ (x ∷ y ∷ [])))
       (traceCuts touches w (x ∷ y ∷ gs))
-  -- of the bytes, whatever the entry is handed
-  pub lent : (xs : List ℕ) (fs : List Float) (w : Rect) → Lent xs fs w
+  -- of the bytes, whatever an entry is handed
+  pub lent : (touches : Bool) (xs : List ℕ) (fs : List Float) (w : Rect) → Lent touches xs fs w
+  -- without touches beside with them: the records
+  pub untouched : (whose : ℕ) (w : Rect) (ps : List Point) (k : ℕ) → k + 1 < length ps → Untouched whose w ps k (sampleAt k ps) (sampleAt (k + 1) ps)
+  -- and the answers, refusals too: their counts differ by the number of edges that only touch
+  pub fewer : (fs : List Float) (w : Rect) (bytes : ℕ)
+      → Fewer (beside (traceNumber fs w bytes) (touchesOf w (samplesOf fs)) 0) (answerOf false fs w bytes) (answerOf true fs w bytes)

@@ -13,7 +13,7 @@ use Rattle.umblacet.specs.Promises.{Promises}
 as-long : (c : Call) (xs : List ℕ) → length (leaves c xs) ≡ length xs
 unfolding leaves
 as-long (Walk f a t b p whose) xs = walk.promises .lent xs f a t b p .as-long whose
-as-long (Trace fs w whose) xs = trace.promises .lent xs fs w .as-long whose
+as-long (Trace touches fs w whose) xs = trace.promises .lent touches xs fs w .as-long whose
 
 pub promises : Promises
 promises = record { either-first = λ c d. either-first (leaves c) (leaves d) (as-long c) }

@@ -1,19 +1,22 @@
-//! The stored list of `crates/answers`: the lines that the Rust crate s2 gave, with W8's clamp, asked of this crate.
+//! The stored list of `crates/answers`, asked of this crate: the lines that the Rust crate s2 gave, with W8's clamp and
+//! W10's rule of touches.
 
 mod words;
 
+use std::collections::BTreeSet;
 use std::path::{Path, PathBuf};
 use std::{array, fs};
 use umblacet::r1::interval::Interval;
 use umblacet::r2::{point::Point, rect::Rect};
 use umblacet::s2::edge_clipping;
 use umblacet::s2::stuv;
-use umblacet::trace::{cut_trace, Counts};
+use umblacet::trace::{cut_trace, cut_trace_with_touches, Counts};
 use umblacet::Refusal;
 use words::{Arguments, Shown, REQUEST};
 
 const WALK: u64 = 60;
 const TRACE: u64 = 61;
+const TRACE_WITH_TOUCHES: u64 = 62;
 const RECORD: usize = 40;
 
 /// A request has room for so many of a trace.
@@ -50,26 +53,26 @@ fn every_walk_has_its_segments() {
     }
 }
 
-/// What `clip_edge` answers for each edge is what the trace writes, wherever there is room for it.
+/// What `clip_edge` answers for each edge is what the trace writes, wherever there is room for it; but where the edge
+/// only touches the window it is missed, unless touches are asked for.
 #[test]
 fn every_trace_has_its_edges() {
-    let mut edges = 0;
-    for request in list().0.iter().filter(|request| request[0] == TRACE) {
-        let (Ok(counts), bytes) = trace(&mut arguments(request)) else { continue };
+    let mut seen = BTreeSet::new();
+    for request in list().0.iter().filter(|request| [TRACE, TRACE_WITH_TOUCHES].contains(&request[0])) {
+        let (Ok(counts), bytes) = trace(request) else { continue };
         let mut a = arguments(request);
         let (_, _, window): (u64, u64, Rect) = (a.take(), a.take(), a.take());
         let samples: [Point; FLOATS / 2] = array::from_fn(|_| a.take());
         let whose = a.take();
         for (edge, written) in samples.windows(2).zip(bytes.chunks(RECORD)).take(counts.edges) {
-            let expected = match edge_clipping::clip_edge(edge[0], edge[1], window) {
-                Ok((kept_a, kept_b)) => record(0, whose, kept_a, kept_b),
-                Err(refusal) => record(refusal.number(), whose, Point { x: 0.0, y: 0.0 }, Point { x: 0.0, y: 0.0 }),
-            };
-            assert_eq!(written, expected);
-            edges += 1;
+            let cut = edge_clipping::clip_edge(edge[0], edge[1], window);
+            let touches = matches!(cut, Ok((kept_a, kept_b)) if kept_a == kept_b && edge[0] != edge[1]);
+            let due = if touches && request[0] == TRACE { Err(Refusal::Missed) } else { cut };
+            assert_eq!(written, record_of(due, whose));
+            seen.insert((request[0], touches));
         }
     }
-    assert!(edges > 0, "there are traces in the list");
+    assert_eq!(seen.len(), 4, "edges that only touch and others, by both operations");
 }
 
 /// The whole requests, and a line for each; the last line is for the torn end, and is not asked here.
@@ -107,8 +110,8 @@ fn line(request: &[u64; REQUEST]) -> String {
             let (walked, bytes) = walk(&mut a);
             lent(walked.map(|count| [count]), &bytes)
         }
-        TRACE => {
-            let (traced, bytes) = trace(&mut a);
+        TRACE | TRACE_WITH_TOUCHES => {
+            let (traced, bytes) = trace(request);
             lent(traced.map(|Counts { kept, missed, refused, edges }| [kept, missed, refused, edges]), &bytes)
         }
         operation => answered(operation, &mut a).unwrap_or_else(|| "255".into()),
@@ -207,12 +210,23 @@ fn walk(a: &mut Arguments) -> (Result<usize, Refusal>, Vec<u8>) {
 }
 
 /// The trace's answer, and its buffer after it. Its number stands after all the floats that a request has room for.
-fn trace(a: &mut Arguments) -> (Result<Counts, Refusal>, Vec<u8>) {
+fn trace(request: &[u64; REQUEST]) -> (Result<Counts, Refusal>, Vec<u8>) {
+    let entry = if request[0] == TRACE { cut_trace } else { cut_trace_with_touches };
+    let mut a = arguments(request);
     let (floats, length, window): (u64, u64, Rect) = (a.take(), a.take(), a.take());
     let samples: [f64; FLOATS] = array::from_fn(|_| a.take());
     let samples = &samples[..floats.min(FLOATS as u64) as usize];
     let mut bytes = vec![0xa5; length.min(400) as usize];
-    (cut_trace(samples, window, a.take(), &mut bytes), bytes)
+    (entry(samples, window, a.take(), &mut bytes), bytes)
+}
+
+/// The record of an edge that was cut so.
+fn record_of(cut: Result<(Point, Point), Refusal>, whose: u32) -> Vec<u8> {
+    let nowhere = Point { x: 0.0, y: 0.0 };
+    match cut {
+        Ok((a, b)) => record(0, whose, a, b),
+        Err(refusal) => record(refusal.number(), whose, nowhere, nowhere),
+    }
 }
 
 fn record(first: u8, whose: u32, a: Point, b: Point) -> Vec<u8> {

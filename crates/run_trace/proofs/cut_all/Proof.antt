@@ -4,10 +4,10 @@ use Rattle.run_trace.proofs.cut_all.Statement.{statement}
 use Rattle.run_trace.proofs.cut_all.Tie as tie
 
 abbrev Inv-loop : tie.InvT-loop
-Inv-loop window whose so-far₀ pieces₀ so-far pieces = Unit {0}
+Inv-loop touches window whose so-far₀ pieces₀ so-far pieces = Unit {0}
 
 abbrev μ-loop : tie.MeasureT-loop
-μ-loop window whose so-far₀ pieces₀ so-far pieces = pieces
+μ-loop touches window whose so-far₀ pieces₀ so-far pieces = pieces
 
 none-requires : tie.Need-none-requires Inv-loop μ-loop
 none-requires c κs = tt

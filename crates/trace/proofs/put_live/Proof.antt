@@ -5,16 +5,17 @@ use mathlib.Core.Bool.{true, false}
 use native.Mathlib.Omega.{arith}
 use lib.ListN.{length}
 use Rattle.clip.specs.Refuse.{pointFine}
-use Rattle.trace.proofs.Writing.{unsaid, Onward, sets-out, some-room, edge-next, edge-fine, onward, to-dead, to-end}
+use Rattle.trace.proofs.Writing.{Onward, sets-out, some-room, edge-next, edge-fine, onward, to-dead, to-end}
+use Rattle.trace.proofs.Touch.{unsaid}
 use borrow.Author.Needs.{needs}
 use Rattle.trace.proofs.put_live.Statement.{statement}
 use Rattle.trace.proofs.put_live.Tie as tie
 
 abbrev Inv-loop : tie.InvT-loop
-Inv-loop samples window whose out₀ at₀ out at = Onward whose samples window out₀ at₀ out at
+Inv-loop touches samples window whose out₀ at₀ out at = Onward touches whose samples window out₀ at₀ out at
 
 abbrev μ-loop : tie.MeasureT-loop
-μ-loop samples window whose out₀ at₀ out at = length samples - at .k
+μ-loop touches samples window whose out₀ at₀ out at = length samples - at .k
 
 loop-holds : tie.Need-loop-holds Inv-loop μ-loop
 loop-holds c = sets-out _ (c .before .before .pre)

@@ -10,10 +10,10 @@ use Rattle.trace.proofs.put_records.Statement.{statement}
 use Rattle.trace.proofs.put_records.Tie as tie
 
 abbrev Inv-loop : tie.InvT-loop
-Inv-loop samples window whose out₀ at₀ out at = Written whose samples window out₀ out at
+Inv-loop touches samples window whose out₀ at₀ out at = Written touches whose samples window out₀ out at
 
 abbrev μ-loop : tie.MeasureT-loop
-μ-loop samples window whose out₀ at₀ out at = length samples - at .k
+μ-loop touches samples window whose out₀ at₀ out at = length samples - at .k
 
 no-edges-requires : tie.Need-no-edges-requires Inv-loop μ-loop
 no-edges-requires c κs = search needs
@@ -21,14 +21,14 @@ no-edges-requires c κs = search needs
 returns : tie.Need-returns Inv-loop μ-loop
 returns c =
     let p = c .before .before .before .before in
-    let (r, b) = none-written (p .args .whose) (p .args .samples .now) (p .args .window) _ (p .pre .room) (c .before .if1 .taken) in
+    let (r, b) = none-written (p .args .touches) (p .args .whose) (p .args .samples .now) (p .args .window) _ (p .pre .room) (c .before .if1 .taken) in
     (c .no-edges .ensures ∙ r, b)
 
 sample-at-requires : tie.Need-sample-at-requires Inv-loop μ-loop
-sample-at-requires c κs = let p = c .before .before .before in (omega (arith, two-samples (p .args .samples .now) (p .args .window) _ (p .pre .room) (c .if1 .left)), omega arith)
+sample-at-requires c κs = let p = c .before .before .before in (omega (arith, two-samples (p .args .samples .now) _ (p .pre .room) (c .if1 .left)), omega arith)
 
 loop-holds : tie.Need-loop-holds Inv-loop μ-loop
-loop-holds c = begins _ _ _ _ (c .before .before .before .before .pre) (c .before .if1 .left) _ (c .sample-at .ensures)
+loop-holds c = begins _ _ _ _ _ (c .before .before .before .before .pre) (c .before .if1 .left) _ (c .sample-at .ensures)
 
 sub-if2 : tie.Need-sub-if2 Inv-loop μ-loop
 sub-if2 c = room-too (c .before .before .before .before .before .pre) (c .before .before .if1 .left) (c .loop .inv)
@@ -40,7 +40,7 @@ put-live-requires : tie.Need-put-live-requires Inv-loop μ-loop
 put-live-requires c κs = written-live (c .before .before .before .before .before .before .before .before .before .before .pre) (c .before .before .before .before .before .before .before .if1 .left) (c .before .before .before .before .before .loop .inv) (c .before .before .before .if2 .taken) (sym (c .before .before .point-fine .ensures) ∙ c .before .if3 .taken)
 
 -- where live edges and the dead one meet
-halted : (c : tie.Joined3 Inv-loop μ-loop) → Halted (c .before .before .before .before .before .before .before .before .before .args .whose) (c .before .before .before .before .before .before .before .before .before .args .samples .now) (c .before .before .before .before .before .before .before .before .before .args .window) (c .before .before .before .before .before .before .before .before .before .args .out .now) (c .before .before .before .before .loop .at .k) (c .if3 .out) (c .if3 .at)
+halted : (c : tie.Joined3 Inv-loop μ-loop) → Halted (c .before .before .before .before .before .before .before .before .before .args .touches) (c .before .before .before .before .before .before .before .before .before .args .whose) (c .before .before .before .before .before .before .before .before .before .args .samples .now) (c .before .before .before .before .before .before .before .before .before .args .window) (c .before .before .before .before .before .before .before .before .before .args .out .now) (c .before .before .before .before .loop .at .k) (c .if3 .out) (c .if3 .at)
 halted c =
     let v = c .before .before .before .before .loop .inv in
     ⊎-elim
@@ -69,11 +69,11 @@ loop-again-2 c = halted (c .before .before) .written
 edge-count-requires : tie.Need-edge-count-requires Inv-loop μ-loop
 edge-count-requires c κs = search needs
 
-sub-t7 : tie.Need-sub-t7 Inv-loop μ-loop
-sub-t7 c = omega (arith, no-more-than (c .before .before .before .before .before .before .before .before .before .pre) (c .before .before .before .before .before .before .if1 .left) (c .before .before .before .before .loop .inv) (c .before .before .if2 .left), c .before .edge-count .ensures)
+sub-t8 : tie.Need-sub-t8 Inv-loop μ-loop
+sub-t8 c = omega (arith, no-more-than (c .before .before .before .before .before .before .before .before .before .pre) (c .before .before .before .before .before .before .if1 .left) (c .before .before .before .before .loop .inv) (c .before .before .if2 .left), c .before .edge-count .ensures)
 
-sub-t18 : tie.Need-sub-t18 Inv-loop μ-loop
-sub-t18 c = omega (arith, no-more-than (c .before .before .before .before .before .before .before .before .before .before .pre) (c .before .before .before .before .before .before .before .if1 .left) (c .before .before .before .before .before .loop .inv) (c .before .before .before .if2 .left), c .before .before .edge-count .ensures)
+sub-t19 : tie.Need-sub-t19 Inv-loop μ-loop
+sub-t19 c = omega (arith, no-more-than (c .before .before .before .before .before .before .before .before .before .before .pre) (c .before .before .before .before .before .before .before .if1 .left) (c .before .before .before .before .before .loop .inv) (c .before .before .before .if2 .left), c .before .before .edge-count .ensures)
 
 same-length : tie.Need-same-length Inv-loop μ-loop
 same-length c = c .before .before .before .before .before .loop .inv .long
@@ -101,7 +101,7 @@ put-records-spec =
     loop-less-2
     loop-again-2
     edge-count-requires
-    sub-t7
-    sub-t18
+    sub-t8
+    sub-t19
     same-length
     returns-2)

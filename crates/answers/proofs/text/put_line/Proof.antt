@@ -1,6 +1,6 @@
--- `put_line` stores the line of a request: 60 and 61 have their own.
+-- `put_line` stores the line of a request: 60, 61 and 62 have their own.
 use native.Mathlib.Omega.{arith}
-use Rattle.answers.proofs.Run.{line-walk, line-trace, line-reply}
+use Rattle.answers.proofs.Run.{line-walk, line-trace, line-touches, line-reply}
 use Rattle.answers.proofs.Spaced.{same-line}
 use borrow.Author.Needs.{needs}
 use Rattle.answers.proofs.text.put_line.Statement.{statement}
@@ -29,19 +29,29 @@ same-length-2 c = search needs
 returns-2 : tie.Need-returns-2
 returns-2 c = same-line _ _ _ _ _ _ 873 (line-trace _ _ (c .before .before .before .before .before .before .word .ensures) (c .before .before .before .before .before .if1 .left) (c .before .before .before .before .if2 .taken)) (c .before .before .put-trace .ensures)
 
+put-trace-requires-2 : tie.Need-put-trace-requires-2
+put-trace-requires-2 c κs = omega arith
+
+same-length-3 : tie.Need-same-length-3
+same-length-3 c = search needs
+
+returns-3 : tie.Need-returns-3
+returns-3 c = same-line _ _ _ _ _ _ 873 (line-touches _ _ (c .before .before .before .before .before .before .before .word .ensures) (c .before .before .before .before .if3 .taken)) (c .before .before .put-trace2 .ensures)
+
 reply-of-requires : tie.Need-reply-of-requires
 reply-of-requires c κs = search needs
 
 put-reply-requires : tie.Need-put-reply-requires
 put-reply-requires c κs = omega arith
 
-same-length-3 : tie.Need-same-length-3
-same-length-3 c = search needs
+same-length-4 : tie.Need-same-length-4
+same-length-4 c = search needs
 
-returns-3 : tie.Need-returns-3
-returns-3 c =
+returns-4 : tie.Need-returns-4
+returns-4 c =
     let r = c .before .before .put-reply .ensures in
-    same-line _ _ _ _ _ _ 873 (line-reply _ _ _ (c .before .before .before .before .before .before .before .word .ensures) (c .before .before .before .before .before .before .if1 .left) (c .before .before .before .before .before .if2 .left) (c .before .before .before .reply-of .ensures)) (r .0, r .1, omega (arith, r .2))
+    let o = c .before .before .before .before .before .before .before in
+    same-line _ _ _ _ _ _ 873 (line-reply _ _ _ (o .before .word .ensures) (o .if1 .left) (c .before .before .before .before .before .before .if2 .left) (c .before .before .before .before .before .if3 .left) (c .before .before .before .reply-of .ensures)) (r .0, r .1, omega (arith, r .2))
 
 pub put-line-spec : {M : Type 1} → statement M
 put-line-spec =
@@ -54,7 +64,10 @@ put-line-spec =
     put-trace-requires
     same-length-2
     returns-2
+    put-trace-requires-2
+    same-length-3
+    returns-3
     reply-of-requires
     put-reply-requires
-    same-length-3
-    returns-3)
+    same-length-4
+    returns-4)

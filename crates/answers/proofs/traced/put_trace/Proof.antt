@@ -22,7 +22,7 @@ same-length : tie.Need-same-length
 same-length c = search needs
 
 returns : tie.Need-returns
-returns c = same-line _ _ _ _ _ _ 873 (trace-whole _ _ (c .before .before .before .before .before .before .word-up-to .ensures .0)) (c .before .before .before .put-trace-on .ensures)
+returns c = same-line _ _ _ _ _ _ 873 (trace-whole _ _ _ (c .before .before .before .before .before .before .word-up-to .ensures .0)) (c .before .before .before .put-trace-on .ensures)
 
 pub put-trace-spec : {M : Type 1} → statement M
 put-trace-spec =

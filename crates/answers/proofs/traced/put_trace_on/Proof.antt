@@ -21,11 +21,11 @@ whose-at-requires c κs = search needs
 array-share-prefix-floats : tie.Need-array-share-prefix-floats
 array-share-prefix-floats c = search needs
 
-slice-aggregate-cut-trace : tie.Need-slice-aggregate-cut-trace
-slice-aggregate-cut-trace c = simp length-take (omega arith)
+slice-aggregate-cut : tie.Need-slice-aggregate-cut
+slice-aggregate-cut c = simp length-take (omega arith)
 
-cut-trace-requires : tie.Need-cut-trace-requires
-cut-trace-requires c κs = search needs
+cut-requires : tie.Need-cut-requires
+cut-requires c κs = search needs
 
 put-traced-requires : tie.Need-put-traced-requires
 put-traced-requires c κs = (omega arith, omega arith)
@@ -38,8 +38,8 @@ same-length-2 c = search needs
 
 returns : tie.Need-returns
 returns c =
-    let t = c .before .before .before .before .before .before .before .cut-trace .ensures in
-    let e = trace-line _ _ _ _ _ _ _ _ (c .before .before .before .before .before .before .before .before .before .before .before .before .before .floats-of .ensures) (c .before .before .before .before .before .before .before .before .before .before .before .before .word-up-to .ensures .0) (c .before .before .before .before .before .before .before .before .before .before .before .rect-at .ensures) (c .before .before .before .before .before .before .before .before .before .before .whose-at .ensures) (t .0) (t .1) in
+    let t = c .before .before .before .before .before .before .before .cut .ensures in
+    let e = trace-line _ _ _ _ _ _ _ _ _ (c .before .before .before .before .before .before .before .before .before .before .before .before .before .floats-of .ensures) (c .before .before .before .before .before .before .before .before .before .before .before .before .word-up-to .ensures .0) (c .before .before .before .before .before .before .before .before .before .before .before .rect-at .ensures) (c .before .before .before .before .before .before .before .before .before .before .whose-at .ensures) (t .0) (t .1) in
     same-line _ _ _ _ _ _ 873 e (c .before .before .put-traced .ensures)
 
 pub put-trace-on-spec : {M : Type 1} → statement M
@@ -51,8 +51,8 @@ put-trace-on-spec =
     rect-at-requires
     whose-at-requires
     array-share-prefix-floats
-    slice-aggregate-cut-trace
-    cut-trace-requires
+    slice-aggregate-cut
+    cut-requires
     put-traced-requires
     same-length
     same-length-2

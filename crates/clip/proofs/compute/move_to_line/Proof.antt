@@ -8,8 +8,8 @@ use Rattle.clip.proofs.compute.move_to_line.Tie as tie
 at-end-requires : tie.Need-at-end-requires
 at-end-requires c κs = search needs
 
-on-line-requires : tie.Need-on-line-requires
-on-line-requires c κs = search needs
+on-own-line-requires : tie.Need-on-own-line-requires
+on-own-line-requires c κs = search needs
 
 own-end-requires : tie.Need-own-end-requires
 own-end-requires c κs = search needs
@@ -19,7 +19,7 @@ update-own-requires c κs = search needs
 
 returns : tie.Need-returns
 unfolding lineMoved
-returns c = then-is _ _ _ _ (c .before .before .before .if1 .taken) (rw (c .before .own-end .ensures, c .before .before .on-line .ensures, c .before .before .before .before .at-end .ensures) at (c .update-own .ensures))
+returns c = then-is _ _ _ _ (c .before .before .before .if1 .taken) (rw (c .before .own-end .ensures, c .before .before .on-own-line .ensures, c .before .before .before .before .at-end .ensures) at (c .update-own .ensures))
 
 interpolate-requires : tie.Need-interpolate-requires
 interpolate-requires c κs = search needs
@@ -36,7 +36,7 @@ move-to-line-spec =
     tie.close
     (tie.spec
     at-end-requires
-    on-line-requires
+    on-own-line-requires
     own-end-requires
     update-own-requires
     returns

@@ -1,21 +1,34 @@
--- `cut` is `cut_trace`, and the edges that are counted fit in what is lent.
-use lib.ListN.{length}
-use Rattle.run_trace.proofs.Cutting.{within}
+-- `cut` is the one entry or the other, and the edges that are counted fit in what is lent.
+use Rattle.run_trace.proofs.Cutting.{cut-with}
 use borrow.Author.Needs.{needs}
 use Rattle.run_trace.proofs.piece.cut.Statement.{statement}
 use Rattle.run_trace.proofs.piece.cut.Tie as tie
 
-cut-trace-requires : tie.Need-cut-trace-requires
-cut-trace-requires c κs = search needs
+cut-trace-with-touches-requires : tie.Need-cut-trace-with-touches-requires
+cut-trace-with-touches-requires c κs = search needs
 
 same-length : tie.Need-same-length
 same-length c = search needs
 
 returns : tie.Need-returns
-returns c =
-    let a = c .before .before .before .before .before .before .args in
-    let e = c .before .before .cut-trace .ensures in
-    (e .0, (e .1, within (a .floats .now) (a .window) (length (a .records .now)) (c .before .before .cut-trace .result) (e .0)))
+returns c = cut-with _ _ _ _ _ _ _ _ (c .before .before .before .before .if1 .taken) (c .before .before .cut-trace-with-touches .ensures)
+
+cut-trace-requires : tie.Need-cut-trace-requires
+cut-trace-requires c κs = search needs
+
+same-length-2 : tie.Need-same-length-2
+same-length-2 c = search needs
+
+returns-2 : tie.Need-returns-2
+returns-2 c = cut-with _ _ _ _ _ _ _ _ (c .before .before .before .before .if1 .left) (c .before .before .cut-trace .ensures)
 
 pub cut-spec : {M : Type 1} → statement M
-cut-spec = tie.close (tie.spec cut-trace-requires same-length returns)
+cut-spec =
+    tie.close
+    (tie.spec
+    cut-trace-with-touches-requires
+    same-length
+    returns
+    cut-trace-requires
+    same-length-2
+    returns-2)

@@ -11,7 +11,7 @@ same-length : tie.Need-same-length
 same-length c = search needs
 
 returns : tie.Need-returns
-returns c = of-piece _ _ _ _ _ _ _ _ (own-all _ _ (c .before .before .before .before .if1 .taken)) (c .before .before .cut .ensures)
+returns c = of-piece _ _ _ _ _ _ _ _ _ (own-all _ _ (c .before .before .before .before .if1 .taken)) (c .before .before .cut .ensures)
 
 slice-aggregate-cut : tie.Need-slice-aggregate-cut
 slice-aggregate-cut c = search needs
@@ -23,7 +23,7 @@ same-length-2 : tie.Need-same-length-2
 same-length-2 c = search needs
 
 returns-2 : tie.Need-returns-2
-returns-2 c = of-piece _ _ _ _ _ _ _ _ (own-none _ _ (c .before .before .before .before .before .before .if1 .left) (c .before .before .before .before .before .if2 .taken)) (c .before .before .cut2 .ensures)
+returns-2 c = of-piece _ _ _ _ _ _ _ _ _ (own-none _ _ (c .before .before .before .before .before .before .if1 .left) (c .before .before .before .before .before .if2 .taken)) (c .before .before .cut2 .ensures)
 
 sub-cut : tie.Need-sub-cut
 sub-cut c = search needs
@@ -41,7 +41,7 @@ same-length-3 : tie.Need-same-length-3
 same-length-3 c = search needs
 
 returns-3 : tie.Need-returns-3
-returns-3 c = of-piece _ _ _ _ _ _ _ _ (own-rest _ _ (c .before .before .before .before .before .before .if1 .left)) (c .before .before .cut3 .ensures)
+returns-3 c = of-piece _ _ _ _ _ _ _ _ _ (own-rest _ _ (c .before .before .before .before .before .before .if1 .left)) (c .before .before .cut3 .ensures)
 
 pub cut-floats-spec : {M : Type 1} → statement M
 cut-floats-spec =

@@ -48,7 +48,7 @@ returns c =
     let read = c .before .before .before .before .before .before .before .before .put-samples .ensures in
     let cut = c .before .before .before .before .cut-floats .ensures in
     let long : 2 + floatsIn (a .bytes .now) ≤ 8192 = omega arith in
-    let whole = cut-of (a .before) (a .bytes .now) 8192 _ _ _ _ refl long (read .0) (read .1 .0) (a .carried) (a .window) (a .whose) _ _ _ cut in
+    let whole = cut-of (a .before) (a .bytes .now) 8192 _ _ _ _ refl long (read .0) (read .1 .0) (a .touches) (a .carried) (a .window) (a .whose) _ _ _ cut in
     (whole .0, (whole .1 .0, (last-of (a .before) (a .bytes .now) 8192 _ _ _ _ refl long (read .0) (read .1 .0) _ (c .last-sample .ensures), whole .1 .1)))
 
 pub cut-piece-spec : {M : Type 1} → statement M

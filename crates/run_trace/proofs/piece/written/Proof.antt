@@ -33,7 +33,7 @@ returns-2 c =
     let n = c .before .before .before .before .before .before .before .bytes-for .ensures in
     let part = c .before .before .before .before .before .before .at-most .ensures .1 ∙ ap (λ (k : ℕ). take k bytes) n in
     when-gt _ _ _ _ _ (c .before .before .before .before .before .before .before .before .if1 .left)
-    (same-bytes _ _ _ _ _ _ _ (c .before .before .before .cut-piece .ensures .0) part)
+    (same-bytes _ _ _ _ _ _ _ _ (c .before .before .before .cut-piece .ensures .0) part)
 
 pub written-spec : {M : Type 1} → statement M
 written-spec =

@@ -3,14 +3,14 @@ use borrow.Author.Needs.{needs}
 use Rattle.trace.proofs.edge.is_past_y.Statement.{statement}
 use Rattle.trace.proofs.edge.is_past_y.Tie as tie
 
-from-point-pair-requires : tie.Need-from-point-pair-requires
-from-point-pair-requires c κs = search needs
+span-requires : tie.Need-span-requires
+span-requires c κs = search needs
 
 is-past-requires : tie.Need-is-past-requires
 is-past-requires c κs = search needs
 
 returns : tie.Need-returns
-returns c = rw (c .before .from-point-pair .ensures) at (c .is-past .ensures)
+returns c = rw (c .before .span .ensures) at (c .is-past .ensures)
 
 pub is-past-y-spec : {M : Type 1} → statement M
-is-past-y-spec = tie.close (tie.spec from-point-pair-requires is-past-requires returns)
+is-past-y-spec = tie.close (tie.spec span-requires is-past-requires returns)

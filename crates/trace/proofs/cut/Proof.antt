@@ -1,11 +1,11 @@
--- The entry `cut_trace`: a case for each way out.
+-- What both entries do, with touches or without: a case for each way out.
 use mathlib.Core.Path.{refl, sym, _∙_}
 use native.Mathlib.Omega.{arith}
 use lib.Seq.{length-take-le}
 use Rattle.trace.proofs.Exits.{fits, refused, cut}
 use borrow.Author.Needs.{needs}
-use Rattle.trace.proofs.cut_trace.Statement.{statement}
-use Rattle.trace.proofs.cut_trace.Tie as tie
+use Rattle.trace.proofs.cut.Statement.{statement}
+use Rattle.trace.proofs.cut.Tie as tie
 
 trace-requires : tie.Need-trace-requires
 trace-requires c κs = search needs
@@ -14,7 +14,7 @@ no-edges-requires : tie.Need-no-edges-requires
 no-edges-requires c κs = search needs
 
 returns : tie.Need-returns
-returns c = let (r, b) = refused _ _ _ _ _ _ (c .before .before .trace .ensures) (c .before .if1 .taken) refl in (c .no-edges .ensures ∙ r, b)
+returns c = let (r, b) = refused _ _ _ _ _ _ _ (c .before .before .trace .ensures) (c .before .if1 .taken) refl in (c .no-edges .ensures ∙ r, b)
 
 edge-count-requires : tie.Need-edge-count-requires
 edge-count-requires c κs = search needs
@@ -37,10 +37,10 @@ same-length c = search needs
 returns-2 : tie.Need-returns-2
 returns-2 c =
     let p = c .before .before .put-records .ensures in
-    cut _ _ _ _ _ _ (c .before .before .before .before .before .before .trace .ensures) (c .before .before .before .before .before .if1 .left) _ (c .before .before .before .before .edge-count .ensures) _ (p .0) _ (p .1) refl
+    cut _ _ _ _ _ _ _ (c .before .before .before .before .before .before .trace .ensures) (c .before .before .before .before .before .if1 .left) _ (c .before .before .before .before .edge-count .ensures) _ (p .0) _ (p .1) refl
 
-pub cut-trace-spec : {M : Type 1} → statement M
-cut-trace-spec =
+pub cut-spec : {M : Type 1} → statement M
+cut-spec =
     tie.close
     (tie.spec
     trace-requires

@@ -1,12 +1,11 @@
--- `asked_by` reads the word digit by digit.
+-- `number_in` reads the word digit by digit.
 use Prim.Native.Nat.{_-_}
 use mathlib.Core.Path.{refl}
 use native.Mathlib.Omega.{arith}
 use lib.ListN.{length}
 use Rattle.run_trace.proofs.Digits.{empty, too-long, Read, begins, room, too-low, too-high, one-more, too-great, number}
-use borrow.Author.Needs.{needs}
-use Rattle.run_trace.proofs.words.asked_by.Statement.{statement}
-use Rattle.run_trace.proofs.words.asked_by.Tie as tie
+use Rattle.run_trace.proofs.words.number_in.Statement.{statement}
+use Rattle.run_trace.proofs.words.number_in.Tie as tie
 
 abbrev Inv-loop : tie.InvT-loop
 Inv-loop word n₀ i₀ n i = Read word i n
@@ -61,8 +60,8 @@ cast-t13 c = omega arith
 returns-6 : tie.Need-returns-6 Inv-loop μ-loop
 returns-6 c = number (c .before .before .loop .inv) (c .before .loop-test .left) (c .if5 .left)
 
-pub asked-by-spec : {M : Type 1} → statement M
-asked-by-spec =
+pub number-in-spec : {M : Type 1} → statement M
+number-in-spec =
     tie.close
     (tie.spec
     Inv-loop

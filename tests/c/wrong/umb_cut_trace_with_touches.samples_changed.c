@@ -1,0 +1,12 @@
+/* Leaves a sample other than it was. */
+#include "wrapped.h"
+
+umb_trace_answer __wrap_umb_cut_trace_with_touches(const double *samples, size_t samples_length, umb_rect window,
+                                                   uint32_t whose, uint8_t *out, size_t out_length)
+{
+    const umb_trace_answer a =
+        __real_umb_cut_trace_with_touches(samples, samples_length, window, whose, out, out_length);
+    if (samples_length > 0)
+        ((double *)samples)[samples_length - 1] = 0.5;
+    return a;
+}

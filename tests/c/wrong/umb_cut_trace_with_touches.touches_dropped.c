@@ -1,0 +1,8 @@
+/* Drops touches. */
+#include "wrapped.h"
+
+umb_trace_answer __wrap_umb_cut_trace_with_touches(const double *samples, size_t samples_length, umb_rect window,
+                                                   uint32_t whose, uint8_t *out, size_t out_length)
+{
+    return umb_cut_trace(samples, samples_length, window, whose, out, out_length);
+}
