@@ -169,6 +169,11 @@ mod edge;
 #[cfg(feature = "trace")]
 mod trace;
 
+// ---- the longest clean stretch, in a library of its own: what shares a function with it can change the others' code
+
+#[cfg(feature = "stretch")]
+mod stretch;
+
 // ---- the line test
 
 #[no_mangle]

@@ -1,9 +1,10 @@
-/* driver.c: calls the contestants. Each is the same four functions of include/umblacet.h under its own name, and every
- * call goes through the same loop.
+/* driver.c: calls the contestants. Each is the same five functions of include/umblacet.h under its own name, or some of
+ * them, and every call goes through the same loop.
  *
  *     driver count CONTESTANT INPUT COUNT ROUNDS    makes COUNT inputs, calls the contestant on each ROUNDS times, and
  *                                                   prints what it answered: how many were done, and a sum of all bits;
- *                                                   a trace is one input of COUNT edges
+ *                                                   a trace is one input of COUNT edges, or where its longest clean
+ *                                                   stretch is asked for of COUNT samples, those in it being done
  *     driver time INPUT COUNT ROUNDS                the same for every contestant that is linked in, in turn, and prints
  *                                                   each one's nanoseconds a call in its best round
  *
@@ -29,6 +30,7 @@ typedef umb_walk_answer walk_function(uint8_t face, umb_uv a, uint8_t target, um
                                       uint32_t whose, uint8_t *out, size_t out_length);
 typedef umb_trace_answer trace_function(const double *samples, size_t samples_length, umb_rect window, uint32_t whose,
                                         uint8_t *out, size_t out_length);
+typedef umb_stretch_answer stretch_function(const double *samples, size_t samples_length, umb_rect window);
 
 /* Weak, so that what cannot be built may be left out. */
 #define OPTIONAL __attribute__((weak))
@@ -36,6 +38,7 @@ extern cut_function nothing_clip_edge, crate_clip_edge OPTIONAL, s2_clip_edge OP
 extern meets_function nothing_intersects_face, crate_intersects_face OPTIONAL;
 extern walk_function nothing_walk, crate_walk OPTIONAL;
 extern trace_function crate_cut_trace OPTIONAL;
+extern stretch_function plain_longest_clean OPTIONAL, plain_longest_clean_at_ends OPTIONAL;
 
 /* The record of an edge: its number, three zero bytes, whose it is, then the floats of its answer. The first two are
  * stored apart, which takes four instructions less than one word of both. */
@@ -88,13 +91,16 @@ static const struct contestant {
     meets_function *meets;
     walk_function *walk;
     trace_function *trace;
+    stretch_function *stretch;
 } contestants[] = {
-    {"ours", umb_clip_edge, umb_intersects_face, umb_walk, umb_cut_trace},
-    {"with-touches", 0, 0, 0, umb_cut_trace_with_touches},
-    {"crate", crate_clip_edge, crate_intersects_face, crate_walk, crate_edge_by_edge},
-    {"loop", 0, 0, 0, crate_cut_trace},
-    {"s2", s2_clip_edge, 0, 0, 0},
-    {"nothing", nothing_clip_edge, nothing_intersects_face, nothing_walk, 0},
+    {"ours", umb_clip_edge, umb_intersects_face, umb_walk, umb_cut_trace, umb_longest_clean},
+    {"with-touches", .trace = umb_cut_trace_with_touches},
+    {"crate", crate_clip_edge, crate_intersects_face, crate_walk, crate_edge_by_edge, 0},
+    {"loop", .trace = crate_cut_trace},
+    {"plain", .stretch = plain_longest_clean},
+    {"plain-at-ends", .stretch = plain_longest_clean_at_ends},
+    {"s2", .cut = s2_clip_edge},
+    {"nothing", nothing_clip_edge, nothing_intersects_face, nothing_walk, 0, 0},
 };
 enum { CONTESTANTS = sizeof contestants / sizeof contestants[0] };
 
@@ -104,6 +110,7 @@ static const struct input {
     umb_point (*sample)(size_t i, size_t count); /* a whole trace */
     walk_input (*walk)(size_t segments);         /* walks */
     size_t segments;
+    bool stretch; /* of a trace, its longest clean stretch is asked for */
 } inputs[] = {
     {"random", .make = random_edges},
     {"trace", .make = trace_edges},
@@ -137,6 +144,18 @@ static const struct input {
     {"whole-touching", .sample = touching},
     {"whole-past-a-corner", .sample = past_a_corner},
     {"whole-upright", .sample = upright},
+    {"stretch-slow", .sample = sample, .stretch = true},
+    {"stretch-random", .sample = about, .stretch = true},
+    {"stretch-inside", .sample = inside, .stretch = true},
+    {"stretch-left", .sample = left, .stretch = true},
+    {"stretch-right", .sample = right, .stretch = true},
+    {"stretch-below", .sample = below, .stretch = true},
+    {"stretch-above", .sample = above, .stretch = true},
+    {"stretch-dead", .sample = all_nan, .stretch = true},
+    {"stretch-dead-in-y", .sample = nan_in_y, .stretch = true},
+    {"stretch-in-and-above", .sample = in_and_above, .stretch = true},
+    {"stretch-in-and-below", .sample = in_and_below, .stretch = true},
+    {"stretch-seldom-dead", .sample = seldom_dead, .stretch = true},
 };
 enum { INPUTS = sizeof inputs / sizeof inputs[0], LINE = 4 };
 
@@ -150,10 +169,15 @@ static walk_input *walked;
 static umb_walk_answer *ends;
 static double *samples;
 static umb_trace_answer counts;
+static umb_stretch_answer longest;
 static uint8_t *records;
 
 static bool is_trace(void) {
     return inputs[input].sample != 0;
+}
+
+static bool is_stretch(void) {
+    return inputs[input].stretch;
 }
 
 static bool is_walk(void) {
@@ -213,7 +237,28 @@ static void cut_trace(trace_function *trace) {
     counts = trace(samples, 2 * (count + 1), WINDOW, trace_number, records, count * RECORD_BYTES);
 }
 
+static stretch_function *stretch;
+
+/* The longest clean stretch, asked for in the place of a cut: of as many samples as there are edges, one fewer than the
+ * trace has. */
+static umb_trace_answer find_stretch(const double *trace, size_t length, umb_rect window, uint32_t whose, uint8_t *out,
+                                     size_t out_length) {
+    (void)whose, (void)out, (void)out_length;
+    longest = stretch(trace, length - 2, window);
+    return (umb_trace_answer){0};
+}
+
+/* The contestant as the input asks it, so that no call is made dearer by the question. */
+static struct contestant as_asked(struct contestant c) {
+    if (is_stretch()) {
+        stretch = c.stretch;
+        c.trace = find_stretch;
+    }
+    return c;
+}
+
 static bool has(const struct contestant *c) {
+    if (is_stretch()) return c->stretch != 0;
     if (is_trace()) return c->trace == crate_edge_by_edge ? c->cut != 0 : c->trace != 0;
     return input == LINE ? c->meets != 0 : is_walk() ? c->walk != 0 : c->cut != 0;
 }
@@ -253,8 +298,16 @@ static void add_counts(void) {
     add(counts.edges);
 }
 
-/* Adds answer i to the sum, padding left out, and says whether something was done: kept, met or walked as was due. */
+static void add_stretch(void) {
+    add(longest.number);
+    add(longest.first);
+    add(longest.count);
+}
+
+/* Adds answer i to the sum, padding left out, and says whether something was done: kept, met, walked as was due or, of a
+ * sample, in the longest clean stretch. */
 static bool add_answer(size_t i) {
+    if (is_stretch()) return longest.first <= i && i - longest.first < longest.count;
     if (is_trace()) {
         add_bytes(records + i * RECORD_BYTES, RECORD_BYTES);
         return records[i * RECORD_BYTES] == UMB_DONE;
@@ -280,6 +333,7 @@ static bool add_answer(size_t i) {
 static void print_answers(void) {
     size_t done = 0;
     add_counts();
+    add_stretch();
     for (size_t i = 0; i < count; i++) done += add_answer(i);
     printf("%lu of %lu, sum %016lx\n", (unsigned long)done, (unsigned long)count, (unsigned long)sum);
 }
@@ -289,8 +343,9 @@ static void print_answers(void) {
 static int count_calls(const char *name, size_t rounds) {
     for (size_t c = 0; c < CONTESTANTS; c++) {
         if (strcmp(contestants[c].name, name) != 0 || !has(&contestants[c])) continue;
+        struct contestant asked = as_asked(contestants[c]);
         sched_yield(); /* tells step.c that what is to be counted begins */
-        for (size_t round = 0; round < rounds; round++) call_all(&contestants[c]);
+        for (size_t round = 0; round < rounds; round++) call_all(&asked);
         print_answers();
         return 0;
     }
@@ -308,8 +363,9 @@ static int time_calls(size_t rounds) {
     for (size_t round = 0; round < rounds; round++) {
         for (size_t c = 0; c < CONTESTANTS; c++) {
             if (!has(&contestants[c])) continue;
+            struct contestant asked = as_asked(contestants[c]);
             double start = now();
-            call_all(&contestants[c]);
+            call_all(&asked);
             double taken = now() - start;
             if (round == 0 || taken < best[c]) best[c] = taken;
         }

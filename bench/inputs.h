@@ -177,6 +177,56 @@ static umb_point seldom_dead(size_t i, size_t count) {
     return next_number() >> 60 == 0 ? dead(i, count) : sample(i, count);
 }
 
+/* ---- samples of a trace of so many, for the longest clean stretch; `sample`, `inside` and `seldom_dead` are too */
+
+/* About the window, half of them in it. */
+static umb_point about(size_t i, size_t count) {
+    (void)i, (void)count;
+    return point_between(-0.2, 1.2);
+}
+
+static umb_point left(size_t i, size_t count) {
+    (void)i, (void)count;
+    double past = between(0.01, 1.0);
+    return beyond(0, past, between(0.0, 1.0));
+}
+
+static umb_point below(size_t i, size_t count) {
+    (void)i, (void)count;
+    double past = between(0.01, 1.0);
+    return beyond(1, past, between(0.0, 1.0));
+}
+
+static umb_point right(size_t i, size_t count) {
+    (void)i, (void)count;
+    double past = between(0.01, 1.0);
+    return beyond(2, past, between(0.0, 1.0));
+}
+
+static umb_point above(size_t i, size_t count) {
+    (void)i, (void)count;
+    double past = between(0.01, 1.0);
+    return beyond(3, past, between(0.0, 1.0));
+}
+
+static umb_point in_and_above(size_t i, size_t count) {
+    return i % 2 == 0 ? inside(i, count) : above(i, count);
+}
+
+static umb_point in_and_below(size_t i, size_t count) {
+    return i % 2 == 0 ? inside(i, count) : below(i, count);
+}
+
+/* Both coordinates are NaN. */
+static umb_point all_nan(size_t i, size_t count) {
+    (void)i, (void)count;
+    return (umb_point){__builtin_nan(""), __builtin_nan("")};
+}
+
+static umb_point nan_in_y(size_t i, size_t count) {
+    return (umb_point){inside(i, count).x, __builtin_nan("")};
+}
+
 /* ---- lines */
 
 /* Normals in a face's u, v, w; with w up to twice the others, half of the lines meet the face. */

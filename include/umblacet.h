@@ -3,8 +3,9 @@
  * Every function answers every input: NaN, infinities, empty windows, faces above 5 and short buffers get a number,
  * and nothing traps. An answer is a struct whose first member is that number. Beside any number but UMB_DONE all its
  * other members are zeros (no, face 0, axis U). Nothing is kept between calls, so every function may be called from any
- * thread. Only umb_walk, umb_cut_trace and umb_cut_trace_with_touches are lent memory, and what they leave there is
- * said at "a record"; all other arguments are taken by value, and no other function writes anywhere but its answer.
+ * thread. Only umb_walk, umb_cut_trace and umb_cut_trace_with_touches are lent memory to write to, and what they leave
+ * there is said at "a record"; the samples of a trace are only read. All other arguments are taken by value, and no other
+ * function writes anywhere but its answer.
  *
  * All floats are IEEE 754 binary64, round to nearest, ties to even, which is how a C program starts: a caller that has
  * set another rounding, or flushes subnormals to zero, sets that back before a call. A bool holds 0 or 1. Where finite
@@ -146,6 +147,12 @@ typedef struct umb_trace_answer {
     size_t kept, missed, refused, edges;
 } umb_trace_answer;
 
+/* So many samples of a trace from its sample `first` on; 0 is the first of all. */
+typedef struct umb_stretch_answer {
+    uint8_t number;
+    size_t first, count;
+} umb_stretch_answer;
+
 /* ---- points. 2 where a float handed in is not finite, else 0. */
 
 umb_point_answer umb_point_new(double x, double y);
@@ -258,6 +265,17 @@ umb_trace_answer umb_cut_trace(const double *samples, size_t samples_length, umb
  * with the edges that only touch among the kept and not among the missed. */
 umb_trace_answer umb_cut_trace_with_touches(const double *samples, size_t samples_length, umb_rect window,
                                             uint32_t whose, uint8_t *out, size_t out_length);
+
+/* ---- the longest clean stretch of a trace */
+
+/* Of the runs of consecutive samples that are all clean the longest, and the earliest of these if several are as long:
+ * its first sample, and how many samples it has. A clean sample is not dead, which is to say that neither of its floats
+ * is NaN, infinite or beyond 2^500 in magnitude, and it lies in the window, whose sides are in it. So no clean run of
+ * the trace has more samples, and none that has as many begins before this one; and umb_cut_trace keeps every edge
+ * between its samples, as it stands. Where no sample is clean, both are 0. Of these numbers: 10, 3, 0. samples has
+ * samples_length floats, x and y in turn; the length may be 0, and the pointer is not null. They are only read, and
+ * nothing is copied: the part is samples[2 * first] to samples[2 * (first + count) - 1], the caller's own. */
+umb_stretch_answer umb_longest_clean(const double *samples, size_t samples_length, umb_rect window);
 
 /* ---- the six faces of the cube */
 

@@ -3,6 +3,7 @@
 use crate::number::{Answer, DONE, NO_SUCH_OPERATION};
 use crate::r2::rect::Rect;
 use crate::stream::{answer_records, hex, words, write_line};
+use crate::stretch::longest_clean;
 use crate::trace::{cut_trace, Touches};
 use crate::whose::Whose;
 use crate::words::{shown, Arguments};
@@ -40,6 +41,7 @@ pub fn answer(request: &[u64; REQUEST], whose: Whose, output: &mut impl Write) -
         60 => return write_walk(&mut Arguments::new(arguments), output),
         61 => return write_trace(whose, Touches::Dropped, &mut Arguments::new(arguments), output),
         62 => return write_trace(whose, Touches::Kept, &mut Arguments::new(arguments), output),
+        63 => return write_stretch(&mut Arguments::new(arguments), output),
         _ => {}
     }
     let mut answer = results(operation, whose, &mut Arguments::new(arguments));
@@ -126,6 +128,14 @@ fn write_trace(whose: Whose, touches: Touches, a: &mut Arguments, output: &mut i
     let samples = &floats[..count.min(FLOATS as u64) as usize];
     let trace_number = a.take();
     write_lent(output, length, |buffer| cut_trace(whose, touches, samples, &window, trace_number, buffer))
+}
+
+/// Whatever the number, the line has the two counts, as that of a trace with nothing lent.
+fn write_stretch(a: &mut Arguments, output: &mut impl Write) -> io::Result<()> {
+    let (count, window): (u64, Rect) = (a.take(), a.take());
+    let floats: [f64; FLOATS] = std::array::from_fn(|_| a.take());
+    let samples = &floats[..count.min(FLOATS as u64) as usize];
+    write_lent(output, 0, |_| longest_clean(samples, &window))
 }
 
 /// The line of a call that is lent a buffer shows its counts and the whole buffer, whatever the number: what was

@@ -9,9 +9,9 @@ use std::io::{self, BufWriter, Write};
 /// lengths; x floats of all sorts, not finite ones among them; t small floats of both signs; g 0 to 3; h 0 to 2; e the
 /// ends 0 and 2; c -1 to 1; m the middle of a face; l floats up to module 4's limit and beyond it, w that limit and the
 /// float above it, W their opposites. For a trace: C counts of floats, S six of them; R lengths about whole records, T
-/// about two, E exactly two; d floats of live and dead samples; a digit that float, 0 also face 0. N trace numbers, in
-/// short grids of their own; in the others the number is 0.
-const GRID: [(u64, &str); 62] = [
+/// about two, E exactly two; d floats of live and dead samples, o 1 or 3; a digit that float, 0 also face 0. N trace
+/// numbers, in short grids of their own; in the others the number is 0.
+const GRID: [(u64, &str); 66] = [
     (1, "xxxx"),
     (2, "xxxx"),
     (3, "xxx"),
@@ -74,6 +74,10 @@ const GRID: [(u64, &str); 62] = [
     (61, "CRe0120031132202133120N"),
     (62, "SEh1hhhhhhhh"),
     (62, "CRe0120031132202133120N"),
+    (63, "Ce012o1o1o1o1o1o1o1o1"),
+    (63, "S0022dddddd"),
+    (63, "Shhhhhhhh11"),
+    (63, "SWWwwlw1lwl"),
 ];
 
 /// Operations up to this one are also asked with all arguments zero, listed or not.
@@ -127,6 +131,7 @@ fn list(letter: char) -> Vec<u64> {
         'E' => vec![80],
         'N' => vec![0, 1, 0x0403_0201, 1 << 32, (1 << 32) + 1],
         'd' => floats(&[1.0, 3.0, f64::NAN, f64::NEG_INFINITY, LIMIT.next_up()]),
+        'o' => floats(&[1.0, 3.0]),
         '0'..='9' => floats(&[f64::from(letter as u8 - b'0')]),
         _ => unreachable!("no list is called {letter}"),
     }

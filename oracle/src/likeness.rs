@@ -46,13 +46,14 @@ fn floats_in(kind: char) -> std::iter::RepeatN<bool> {
         'v' => (true, 3),
         'r' => (true, 4),
         'b' | 'F' => (false, 1),
+        'P' => (false, 2),
         _ => unreachable!("no kind of result is called {kind}"),
     };
     std::iter::repeat_n(float, count)
 }
 
 /// The groups after a 0. After another number the text itself counts: a refused walk's or trace's line shows its whole
-/// buffer.
+/// buffer, that of a refused stretch its two counts.
 fn carried(line: &[u8]) -> Option<Vec<&[u8]>> {
     let groups = line.strip_prefix(b"0 ")?.strip_suffix(b"\n")?;
     Some(groups.split(|byte| *byte == b' ').collect())
@@ -200,6 +201,29 @@ mod tests {
     }
 
     #[test]
+    fn stretches() {
+        let line = "0 0000000000000001 0000000000000002\n";
+        assert!(likeness("P", line, line) == Same);
+        let minus_zero = line.replacen("0000000000000001", "8000000000000000", 1);
+        for other in [
+            "0 0000000000000000 0000000000000002\n",
+            "0 0000000000000001 0000000000000001\n",
+            "0 0000000000000001\n",
+            "3 0000000000000001 0000000000000002\n",
+            "0\n",
+            &minus_zero,
+        ] {
+            assert!(likeness("P", line, other) == Different, "{other:?}");
+        }
+        let zeros = line.replace(['1', '2'], "0");
+        assert!(likeness("P", &zeros, &minus_zero.replace('2', "0")) == Different, "-0 is no sample");
+        let refused = zeros.replacen('0', "3", 1);
+        assert!(likeness("P", &refused, &refused) == Same);
+        assert!(likeness("P", &refused, "3\n") == Different, "no counts");
+        assert!(likeness("P", &refused, &refused.replace("0\n", "1\n")) == Different, "a count beside a refusal");
+    }
+
+    #[test]
     fn walks() {
         let line = walk(RECORDS, "a5a5");
         let likeness = |other: &str| likeness("W", &line, other);
@@ -243,7 +267,7 @@ mod tests {
         assert!(compare("T", none.as_bytes(), line.as_bytes()) == Different);
     }
 
-    /// A whole word is always small, and a float is not always: so the kinds are those of the crate's own answers.
+    /// A whole word is 8 at the most, and a float is not always: so the kinds are those of the crate's own answers.
     #[test]
     fn kinds_of_results() {
         let mut random = Random::new(1);
@@ -256,7 +280,7 @@ mod tests {
             let floats: Vec<bool> = results.chars().flat_map(floats_in).collect();
             assert_eq!(groups.len(), floats.len(), "operation {}", request[0]);
             for (place, group) in groups.iter().enumerate() {
-                if word(group).expect("a word") > 5 {
+                if word(group).expect("a word") > 8 {
                     assert!(floats[place], "operation {}, word {place}", request[0]);
                     great.insert((request[0], place));
                 }

@@ -51,8 +51,8 @@ fn see(seen: &mut Seen, request: &[u64; REQUEST]) {
     let refused: Vec<usize> = floats.iter().filter(|(_, x)| !admitted(*x)).map(|(place, _)| *place).collect();
     let line = line_of(request, Whose::Ours);
     let number: u64 = line.split_whitespace().next().and_then(|number| number.parse().ok()).expect("a number");
-    // A trace without an edge shows nothing of its sample.
-    if is_trace(request[0]) && (number > 3 || floats.len() < 8) {
+    // A trace without an edge shows nothing of its sample; one that is refused with 10, nothing of its floats.
+    if number > 3 || is_trace(request[0]) && floats.len() < 8 {
         return;
     }
     for (place, x) in floats {
@@ -82,7 +82,7 @@ fn must_have_all(seen: &Seen, operation: u64, what: &str) {
 fn requests_about_the_limit() {
     let operations = OPERATIONS.map(|(operation, _, _)| operation).into_iter();
     let limited: Vec<u64> = operations.filter(|operation| is_limited(*operation)).collect();
-    assert_eq!(limited, [30, 31, 32, 33, 34, 35, 61, 62]);
+    assert_eq!(limited, [30, 31, 32, 33, 34, 35, 61, 62, 63]);
     for operation in limited {
         let (mut random, mut seen) = (Random::new(1), Seen::new());
         // Half of those for 61 ask 62.

@@ -33,12 +33,16 @@ mod random;
 mod records;
 mod requests;
 mod rules;
+#[cfg(test)]
+mod runs;
 mod same;
 mod samples;
 mod shapes;
 #[cfg(test)]
 mod stored;
 mod stream;
+mod stretch;
+mod stretches;
 #[cfg(test)]
 mod touches;
 mod touching;
@@ -71,11 +75,17 @@ oracle trace NUMBER < SAMPLES   the same with this trace number in every record;
 oracle trace [NUMBER] touches < SAMPLES
                                 the same with touches; else an edge that only touches the window is missed
 oracle samples N SEED           a window and N seeded samples
+oracle stretch < SAMPLES        the line of the longest clean stretch: the number, its first sample and its count of them
+oracle stretch-inputs N SEED FOLDER
+                                N seeded windows with samples, for that, in the files 1 to N; and the line of each
 oracle answers < REQUESTS       a line for each 192-byte request, as the answering program writes it
 oracle list < REQUESTS          the same as our definitions have it: zeros that the crate leaves open, and the clamp
 oracle requests N SEED          N seeded requests, every operation among them
+oracle requests N SEED before W4
+                                the same before W4: 63 takes the place of none
 oracle lent N SEED              N seeded requests of the operations that write records
 oracle touching N SEED          N seeded requests of traces with many edges that only touch the window
+oracle stretches N SEED         N seeded requests of the longest clean stretch of a trace
 oracle before W10 < REQUESTS    these seeded requests as they were before W10, by 61 for 62; before W7, unnumbered too
 oracle past N SEED              searches N seeded requests for what the clamp changes; 1 when it is not as it has to be
 oracle past-requests N SEED     those requests
@@ -110,11 +120,15 @@ fn run(arguments: &[&str]) -> io::Result<bool> {
         ["trace", number] => trace::run(Touches::Dropped, trace_number(number)?)?,
         ["trace", number, "touches"] => trace::run(Touches::Kept, trace_number(number)?)?,
         ["samples", count, seed] => samples::run(whole(count)?, whole(seed)?)?,
+        ["stretch"] => stretch::run()?,
+        ["stretch-inputs", count, seed, folder] => stretches::run_inputs(whole(count)?, whole(seed)?, folder)?,
         ["answers"] => answers::run(Whose::Crates)?,
         ["list"] => answers::run(Whose::Ours)?,
         ["requests", count, seed] => requests::run(requests::request, whole(count)?, whole(seed)?)?,
+        ["requests", count, seed, "before", "W4"] => requests::run(requests::before_w4, whole(count)?, whole(seed)?)?,
         ["lent", count, seed] => requests::run(requests::lent, whole(count)?, whole(seed)?)?,
         ["touching", count, seed] => requests::run(touching::request, whole(count)?, whole(seed)?)?,
+        ["stretches", count, seed] => requests::run(stretches::request, whole(count)?, whole(seed)?)?,
         ["before", landing] => requests::run_before(landing)?,
         ["past", count, seed] => return past::run(whole(count)?, whole(seed)?),
         ["past-requests", count, seed] => requests::run(past::request, whole(count)?, whole(seed)?)?,

@@ -5,8 +5,8 @@ use crate::answers::FLOATS;
 /// f a float, p a point, i an interval, r a rectangle or window, v a vector, n a normal, F a face, A an axis number,
 /// D a direction, b a word that is 0 or not (a yes/no, a corner's side, an axis), L a buffer's length, C a count of
 /// floats, S so many of them in room for the most, N a trace number, always last; W a walk: the count of its records
-/// and the buffer, T a trace: its counts and the buffer.
-pub const OPERATIONS: [(u64, &str, &str); 50] = [
+/// and the buffer, T a trace: its counts and the buffer, P a part of a trace: its first sample and how many it has.
+pub const OPERATIONS: [(u64, &str, &str); 51] = [
     (1, "pp", "p"),
     (2, "pp", "p"),
     (3, "pf", "p"),
@@ -57,11 +57,12 @@ pub const OPERATIONS: [(u64, &str, &str); 50] = [
     (60, "FpFpnLN", "W"),
     (61, "CLrSN", "T"),
     (62, "CLrSN", "T"),
+    (63, "CrS", "P"),
 ];
 
-/// A request is drawn from the first so many. 62 is not among them: it takes the place of some 61 (`requests.rs`),
-/// which moves no other request of a seed.
-pub const DRAWN: usize = OPERATIONS.len() - 1;
+/// A request is drawn from the first so many. 62 and 63 are not among them: 62 takes the place of some 61, and 63 that
+/// of some of any (`requests.rs`), which moves no other request of a seed.
+pub const DRAWN: usize = OPERATIONS.len() - 2;
 
 /// The operations whose answers are hardest to get right: they are asked more often.
 pub const HARD: [u64; 7] = [34, 50, 51, 52, 60, 60, 61];
@@ -74,9 +75,9 @@ pub fn is_trace(operation: u64) -> bool {
     matches!(operation, 61 | 62)
 }
 
-/// Module 4 and the trace, which admit no float beyond the limit.
+/// Module 4, the trace and its longest clean stretch, which admit no float beyond the limit.
 pub fn is_limited(operation: u64) -> bool {
-    matches!(operation, 30..=35) || is_trace(operation)
+    matches!(operation, 30..=35 | 63) || is_trace(operation)
 }
 
 /// The kinds of an operation's arguments and of its results; none where it is not listed.

@@ -12,9 +12,13 @@
 //! next to a power of 256 or the power, one byte that is not 0 among zeros, 4294967295, a word from 2^32 up, its low
 //! half 0, 1 or any, and any word. The words after the arguments are random: they have to be ignored.
 //!
+//! In place of one request of 32 stands one of operation 63, made as `stretches.rs` says. Change request W4 came when
+//! seeds were in use, so it moves no other: it is made of the last word of the request whose place it takes, which that
+//! request's operation does not read, with no draw more. `oracle requests N SEED before W4` has those requests.
+//!
 //! `oracle lent`: such requests of the operations that write records alone.
-//! `oracle before`: seeded requests as their seed gave them before a change request: before W10 by 61 for 62, before W7
-//! with 0 for a trace number too.
+//! `oracle before`: seeded requests from before W4 as their seed gave them before another change request: before W10 by
+//! 61 for 62, before W7 with 0 for a trace number too.
 
 use crate::answers::REQUEST;
 use crate::floats::{at_limit, beyond_limit, neighbour, not_finite, zero, Family};
@@ -22,7 +26,7 @@ use crate::operations::{is_limited, kinds, trace_number_place, words_for, DRAWN,
 use crate::random::Random;
 use crate::shapes;
 use crate::stream::{read_full, words, write_words};
-use crate::traces;
+use crate::{stretches, traces};
 use std::io::{self, BufReader, BufWriter, Write};
 
 #[derive(Clone, Copy)]
@@ -30,6 +34,9 @@ pub enum Word {
     Float(f64),
     Plain(u64),
 }
+
+/// No operation.
+const UNLISTED: u64 = u64::MAX;
 
 /// A line of progress after so many requests.
 const PROGRESS: u64 = 1_000_000;
@@ -47,8 +54,31 @@ pub fn run(request: fn(&mut Random) -> [u64; REQUEST], count: u64, seed: u64) ->
 }
 
 pub fn request(random: &mut Random) -> [u64; REQUEST] {
-    let operation = operation(random);
-    request_of(random, operation)
+    stretch_or(before_w4(random))
+}
+
+/// A request of 63 in place of some, made of a word that was drawn and is not read.
+pub fn stretch_or(request: [u64; REQUEST]) -> [u64; REQUEST] {
+    let last = REQUEST - 1;
+    let mut random = Random::new(request[last]);
+    if trace_number_place(request[0]) != Some(last) && random.once_in(32) {
+        request_of(&mut random, 63)
+    } else {
+        request
+    }
+}
+
+/// Before W4 63 was not listed. Where any word is the operation and it is 63, the others are drawn as they were then:
+/// the requests after it stay.
+pub fn before_w4(random: &mut Random) -> [u64; REQUEST] {
+    match operation(random) {
+        63 => {
+            let mut request = request_of(random, UNLISTED);
+            request[0] = 63;
+            request
+        }
+        operation => request_of(random, operation),
+    }
 }
 
 pub fn lent(random: &mut Random) -> [u64; REQUEST] {
@@ -94,6 +124,7 @@ pub fn request_of(random: &mut Random, operation: u64) -> [u64; REQUEST] {
         30..=35 if !random.once_in(4) => shapes::around_edge(random, operation),
         55 if random.coin() => shapes::at_corner(random),
         61 | 62 => traces::arguments(random),
+        63 => stretches::arguments(random),
         _ => plain_arguments(random, operation),
     };
     spoil(random, operation, &mut floats_of(&mut arguments));

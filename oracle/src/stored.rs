@@ -3,10 +3,10 @@
 use crate::answers::{line_of, request, REQUEST};
 use crate::kept::{Kept, KEPT, W10};
 use crate::random::Random;
-use crate::requests::{self, before_w10, before_w7, lent};
+use crate::requests::{before_w10, before_w4, before_w7, lent};
 use crate::stream::words;
-use crate::touching;
 use crate::whose::Whose;
+use crate::{stretches, touching};
 use std::collections::BTreeSet;
 
 const REQUESTS: &[u8] = include_bytes!("../../crates/answers/stdin");
@@ -67,12 +67,17 @@ pub fn answered(request: &Request) -> (u64, String) {
 #[test]
 fn the_parts_in_order() {
     let stored = requests();
+    let stored = must_end(&stored, &seeded(stretches::request, 200, 4));
+    let from_others = stored.iter().rposition(|request| request[0] != 63).expect("other operations");
+    let (stored, from_grid) = stored.split_at(from_others + 1);
+    must_differ(from_grid);
+    assert!(!from_grid.is_empty());
     let (before, since) = stored.split_at(until_w10());
-    let unnumbered = seeded(|random| before_w7(requests::request(random)), 5000, 1);
+    let unnumbered = seeded(|random| before_w7(before_w4(random)), 5000, 1);
     let numbered = seeded(|random| before_w10(lent(random)), 300, 2);
     let from_grid = must_begin(must_end(before, &[unnumbered, numbered].concat()), KEPT);
     must_differ(from_grid);
-    assert!(from_grid.iter().all(|request| request[0] != 62));
+    assert!(from_grid.iter().all(|request| request[0] < 62));
     let from_grid = must_begin(must_end(since, &seeded(touching::request, 200, 3)), W10);
     must_differ(from_grid);
     assert!(!from_grid.is_empty() && from_grid.iter().all(|request| request[0] == 62));

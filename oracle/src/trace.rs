@@ -12,7 +12,7 @@ use crate::words::Arguments;
 use std::io::{self, BufReader, BufWriter, Read, Write};
 
 /// A trace of one call has no more samples.
-const SAMPLES: usize = 4096;
+pub const SAMPLES: usize = 4096;
 
 /// Bytes of the window, and of a sample, in the program's input.
 pub const WINDOW_BYTES: usize = 32;

@@ -72,7 +72,7 @@ fn count(random: &mut Random) -> usize {
 }
 
 /// The count as the request has it: now and then more than there is room for, which counts as that.
-fn above_limit(random: &mut Random, floats: usize) -> u64 {
+pub fn above_limit(random: &mut Random, floats: usize) -> u64 {
     let any = random.word();
     if floats == FLOATS && random.once_in(4) {
         random.pick(&[17, 18, 256, 1 << 32, any.max(17)])

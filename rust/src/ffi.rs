@@ -177,3 +177,12 @@ macro_rules! traces {
 }
 
 traces! { umb_cut_trace umb_cut_trace_with_touches }
+
+/// The first sample, and how many.
+pub(crate) fn umb_longest_clean(samples: &[f64], window: Rect) -> Result<Pair<usize>, Refusal> {
+    extern "C" {
+        fn umb_longest_clean(samples: *const f64, samples_length: usize, window: Rect) -> Numbered<Pair<usize>>;
+    }
+    // SAFETY: it is declared as in the header, and is lent a slice: not null, as long as it is told, and only read.
+    unsafe { umb_longest_clean(samples.as_ptr(), samples.len(), window) }.result()
+}

@@ -26,6 +26,7 @@ mod refusal;
 
 pub use refusal::Refusal;
 
+pub mod stretch;
 pub mod trace;
 
 /// Has the example of the README run.

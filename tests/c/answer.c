@@ -165,6 +165,14 @@ answer of_trace(umb_trace_answer a)
     return w;
 }
 
+answer of_stretch(umb_stretch_answer a)
+{
+    answer w = beside(a.number);
+    put_word(&w, a.first);
+    put_word(&w, a.count);
+    return w;
+}
+
 answer both(answer one, answer other)
 {
     for (size_t i = 0; i < other.count; i++)

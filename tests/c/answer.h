@@ -29,6 +29,7 @@ answer of_vector(umb_vector_answer a);
 answer of_axis(umb_axis_answer a);
 answer of_walk(umb_walk_answer a);
 answer of_trace(umb_trace_answer a);
+answer of_stretch(umb_stretch_answer a);
 
 /* The words of one, then of the other. Their numbers ought to be the same; a number of its own where they are not. */
 answer both(answer one, answer other);

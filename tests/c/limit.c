@@ -3,6 +3,7 @@
 
 #include "calls.h"
 #include "record.h"
+#include "stretch.h"
 #include "trace.h"
 
 #include <string.h>
@@ -14,7 +15,7 @@ static const struct operation {
     const char *words;
 } operations[] = {
     {30, "ccccc"},    {31, "cc0c"},     {32, "cccccccc0lh"}, {33, "ccccllhhcccc"},
-    {34, "ccccllhh"}, {35, "ccccllhh"}, {61, "4rllhhcccc"},  {62, "4rllhhcccc"},
+    {34, "ccccllhh"}, {35, "ccccllhh"}, {61, "4rllhhcccc"},  {62, "4rllhhcccc"}, {63, "4llhhcccc"},
 };
 
 static const double limit = 0x1p500;
@@ -53,6 +54,13 @@ static request plain_request(const struct operation *asked)
     return r;
 }
 
+/* Of two samples, neither refused: whether both are in their longest clean stretch, or none is, or one is dead. */
+static unsigned number_for_stretch(const answer *a)
+{
+    static const unsigned numbers[] = {UMB_MISSED, UMB_NOT_FINITE, UMB_DONE};
+    return a->number == UMB_DONE && a->words[1] <= 2 ? numbers[a->words[1]] : a->number;
+}
+
 /* The number of an answer; of a trace that is not refused, its edge's. */
 static unsigned number_for(const request *r)
 {
@@ -60,6 +68,10 @@ static unsigned number_for(const request *r)
     if (entry_for(r) != NULL) {
         const lent t = trace(r, RECORD);
         return t.answer.number == UMB_DONE ? t.bytes[0] : t.answer.number;
+    }
+    if (r->words[0] == STRETCH) {
+        const lent s = stretch(r);
+        return number_for_stretch(&s.answer);
     }
     return call(r, &a) ? a.number : UINT8_MAX;
 }

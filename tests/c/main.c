@@ -2,13 +2,14 @@
  * it checks what no line shows, and ends with 1 where one of these fails: zeros stand beside any number but 0, the same
  * call gives the same answer, a walk and a trace leave alone what was not lent to them, the records of traces that are
  * longer than a request can hold are the answers for their edges, an edge that only touches its window is dropped
- * unless touches are asked for, two engines' records in one buffer are the same bytes whichever are written first, and
- * no float is cut that is beyond 2^500. */
+ * unless touches are asked for, the longest clean stretch of a long trace is that which a search finds, two engines'
+ * records in one buffer are the same bytes whichever are written first, and no float is cut that is beyond 2^500. */
 #include "calls.h"
 #include "engines.h"
 #include "limit.h"
 #include "line.h"
 #include "long_trace.h"
+#include "stretch.h"
 #include "touches.h"
 #include "trace.h"
 #include "walk.h"
@@ -56,6 +57,15 @@ static void answer_lent(const request *r, lent_call *call, size_t length)
     answer_with_nothing_lent(r, call, &first.answer);
 }
 
+static void answer_stretch(const request *r)
+{
+    const lent first = stretch(r), again = stretch(r);
+    write_lent(&first.answer, first.bytes, first.length);
+    must_be_sound(&first.answer);
+    must_hold(first.intact && again.intact, "the samples are only read");
+    must_hold(same_lent(&first, &again), "the same call gives the same answer");
+}
+
 static void answer_call(const request *r)
 {
     answer first = {0}, again = {0};
@@ -75,6 +85,8 @@ static void answer_request(const request *r)
         answer_lent(r, walk, walk_length(r));
     else if (entry_for(r) != NULL)
         answer_lent(r, trace, trace_length(r));
+    else if (r->words[0] == STRETCH)
+        answer_stretch(r);
     else
         answer_call(r);
 }
@@ -100,6 +112,7 @@ int main(void)
         write_number(TORN_INPUT);
     must_be_null(wrong_with_long_traces(), "long traces");
     must_be_null(wrong_with_touches(), "touches");
+    must_be_null(wrong_with_long_stretches(), "long stretches");
     must_be_null(wrong_with_two_engines(), "two engines");
     must_be_null(wrong_about_the_limit(), "the limit");
     return all_hold && !ferror(stdin) && fflush(stdout) == 0 ? 0 : 1;

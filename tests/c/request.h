@@ -28,4 +28,7 @@ uint32_t u32_at(const request *r, size_t place);
 /* A length: the limit for a word above it. */
 size_t length_at(const request *r, size_t place, size_t limit);
 
+/* No request has more floats of a trace. */
+enum { FLOATS = 16 };
+
 #endif

@@ -2,8 +2,8 @@
 
 #include <string.h>
 
-/* No request has more floats. The trace number stands after the places of all of them, however many are asked. */
-enum { FLOATS = 16, WHOSE = 7 + FLOATS };
+/* The trace number stands after the places of all floats, however many are asked. */
+enum { WHOSE = 7 + FLOATS };
 
 const trace_entry trace_entries[TRACE_ENTRIES] = {
     {.operation = 61, .cut = umb_cut_trace, .keeps_touches = false},

@@ -2,4 +2,5 @@
 pub mod Cases
 pub mod Run
 pub mod Spaced
+pub mod ThreeEntries
 pub mod Promises

@@ -18,10 +18,10 @@ use Rattle.walk.specs.declared.compute.WalkAnswer.{WalkAnswer}
 use Rattle.trace.specs.Answers.{answerOf, bufferAfter}
 use Rattle.trace.specs.declared.TraceAnswer.{TraceAnswer}
 use Rattle.answers.specs.Number.{numberText, groupsFrom}
-use Rattle.answers.specs.Request.{wordUpTo, rectAt, uvAt, vectorAt, numberAt, whoseAt}
+use Rattle.answers.specs.Request.{wordUpTo, floatsAt, rectAt, uvAt, vectorAt, numberAt, whoseAt}
 use Rattle.answers.specs.Lent.{lent, twoDigits, bytesFrom, spacedBytes, shownLine}
 use Rattle.answers.specs.Walked.{walkedLine, walkLineOn, walkLine}
-use Rattle.answers.specs.Traced.{tracedLine, floatsOf, traceLineOn, traceLine}
+use Rattle.answers.specs.Traced.{tracedLine, traceLineOn, traceLine}
 use Rattle.answers.proofs.Run.{length-groups}
 
 length-bytes : (bs : List ℕ) (i k : ℕ) → length (bytesFrom bs i k) ≡ 2 * k
@@ -109,7 +109,7 @@ pub walk-whole : (s : List ℕ) (n : ℕ) → n ≡ wordUpTo s 10 400 → walkLi
 unfolding walkLine
 walk-whole s n e = rw e
 
-pub trace-line : (touches : Bool) (xs s bs : List ℕ) (t : TraceAnswer) (n : ℕ) (fs : List Float) (w : Rect) (o : ℕ) → fs ≡ floatsOf s → n ≡ wordUpTo s 1 16 → w ≡ rectAt s 3 → o ≡ whoseAt s 23
+pub trace-line : (touches : Bool) (xs s bs : List ℕ) (t : TraceAnswer) (n : ℕ) (fs : List Float) (w : Rect) (o : ℕ) → fs ≡ floatsAt s 7 → n ≡ wordUpTo s 1 16 → w ≡ rectAt s 3 → o ≡ whoseAt s 23
     → t ≡ answerOf touches (take n fs) w (length xs) → bs ≡ bufferAfter touches xs (take n fs) w o → tracedLine t bs ≡ traceLineOn touches xs s
 unfolding traceLineOn
 trace-line touches xs s bs t n fs w o ef en ew eo et eb = rw (et, eb, ef, en, ew, eo)

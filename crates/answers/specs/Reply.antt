@@ -24,6 +24,7 @@ use Rattle.cube.specs.declared.VectorAnswer.{VectorAnswer}
 use Rattle.line.specs.Line.{byAxis}
 use Rattle.line.specs.declared.compute.Axis.{Axis}
 use Rattle.line.specs.declared.AxisAnswer.{AxisAnswer}
+use Rattle.stretch.specs.declared.StretchAnswer.{StretchAnswer}
 use Rattle.answers.specs.declared.reply.Reply.{Reply}
 
 abbrev pub bits : Float → ℕ
@@ -92,3 +93,7 @@ uvReply a = reply (a .number) 2 (bits (a .u) ∷ bits (a .v) ∷ 0 ∷ 0 ∷ 0 �
 
 unfoldable pub vectorReply : VectorAnswer → Reply
 vectorReply a = reply (a .number) 3 (bits (a .vector .x) ∷ bits (a .vector .y) ∷ bits (a .vector .z) ∷ 0 ∷ 0 ∷ 0 ∷ 0 ∷ 0 ∷ [])
+
+-- the first sample and the count of samples, beside every number
+unfoldable pub stretchReply : StretchAnswer → Reply
+stretchReply a = record { number = a .number; count = 2; words = a .first ∷ a .count ∷ 0 ∷ 0 ∷ 0 ∷ 0 ∷ 0 ∷ 0 ∷ [] }

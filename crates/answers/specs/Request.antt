@@ -1,7 +1,7 @@
 -- The arguments of a request, by the place of their first word: 0 is the operation, and each word is 8 bytes, little-endian.
 use Prim.Native.Nat.{ℕ, _+_, _*_, _%_, _^_}
 use mathlib.Core.Bool.{Bool, not}
-use mathlib.Core.List.{List}
+use mathlib.Core.List.{List, [], _∷_}
 use lib.Dec.{eqb, leb}
 use lib.Ieee.{Float, binary64, ofBits}
 use Rattle.float.specs.Choice.{when_then_else_}
@@ -43,6 +43,12 @@ uvAt s k = uv (floatAt s k) (floatAt s (k + 1))
 
 unfoldable pub vectorAt : List ℕ → ℕ → Vector
 vectorAt s k = vec (floatAt s k) (floatAt s (k + 1)) (floatAt s (k + 2))
+
+-- the sixteen from a place on
+unfoldable pub floatsAt : List ℕ → ℕ → List Float
+floatsAt s k =
+    floatAt s k ∷ floatAt s (k + 1) ∷ floatAt s (k + 2) ∷ floatAt s (k + 3) ∷ floatAt s (k + 4) ∷ floatAt s (k + 5) ∷ floatAt s (k + 6) ∷ floatAt s (k + 7)
+    ∷ floatAt s (k + 8) ∷ floatAt s (k + 9) ∷ floatAt s (k + 10) ∷ floatAt s (k + 11) ∷ floatAt s (k + 12) ∷ floatAt s (k + 13) ∷ floatAt s (k + 14) ∷ floatAt s (k + 15) ∷ []
 
 -- the word, or the most where it is larger
 unfoldable pub wordUpTo : List ℕ → ℕ → ℕ → ℕ

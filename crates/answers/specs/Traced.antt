@@ -2,26 +2,19 @@
 use Prim.Native.Nat.{ℕ}
 use mathlib.Core.Bool.{Bool}
 use mathlib.Core.List.{List, [], _∷_}
-use lib.Ieee.{Float}
 use lib.ListN.{length, take}
 use Rattle.trace.specs.Answers.{answerOf, bufferAfter}
 use Rattle.trace.specs.declared.TraceAnswer.{TraceAnswer}
-use Rattle.answers.specs.Request.{wordUpTo, floatAt, rectAt, whoseAt}
+use Rattle.answers.specs.Request.{wordUpTo, floatsAt, rectAt, whoseAt}
 use Rattle.answers.specs.Lent.{lent, shownLine}
 
 unfoldable pub tracedLine : TraceAnswer → List ℕ → List ℕ
 tracedLine a bs = shownLine (a .number) (a .kept ∷ a .missed ∷ a .refused ∷ a .edges ∷ []) 4 bs
 
--- the words that may be floats
-unfoldable pub floatsOf : List ℕ → List Float
-floatsOf s =
-    floatAt s 7 ∷ floatAt s 8 ∷ floatAt s 9 ∷ floatAt s 10 ∷ floatAt s 11 ∷ floatAt s 12 ∷ floatAt s 13 ∷ floatAt s 14
-    ∷ floatAt s 15 ∷ floatAt s 16 ∷ floatAt s 17 ∷ floatAt s 18 ∷ floatAt s 19 ∷ floatAt s 20 ∷ floatAt s 21 ∷ floatAt s 22 ∷ []
-
 -- the trace of a request on the buffer xs: as many floats as asked, 16 at the most, and the trace number after all of them
 unfoldable pub traceLineOn : Bool → List ℕ → List ℕ → List ℕ
 traceLineOn touches xs s =
-    let fs = take (wordUpTo s 1 16) (floatsOf s) in
+    let fs = take (wordUpTo s 1 16) (floatsAt s 7) in
     let w = rectAt s 3 in
     tracedLine (answerOf touches fs w (length xs)) (bufferAfter touches xs fs w (whoseAt s 23))
 

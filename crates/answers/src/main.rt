@@ -11,6 +11,7 @@ mod points;
 mod rects;
 mod reply;
 mod request;
+mod stretched;
 mod table;
 mod text;
 mod traced;

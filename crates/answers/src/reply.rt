@@ -1,6 +1,6 @@
 // The reply to a request: a number and, beside 0, words.
 ghost use mathlib.Core.Path.{_≡_};
-ghost use Rattle.answers.specs.Reply.{reply, onlyReply, yesNoReply, axisReply, pointsReply, fourReply, cornersReply, clippedReply, yesWord, axisWord, floatReply, pointReply, intervalReply, rectReply, axesReply, faceReply, faceUvReply, uvReply, vectorReply};
+ghost use Rattle.answers.specs.Reply.{reply, onlyReply, yesNoReply, axisReply, pointsReply, fourReply, cornersReply, clippedReply, yesWord, axisWord, floatReply, pointReply, intervalReply, rectReply, axesReply, faceReply, faceUvReply, uvReply, vectorReply, stretchReply};
 use answer::DONE;
 use answer::MISSED;
 use answer::Real;
@@ -18,6 +18,7 @@ use plane::IntervalAnswer;
 use plane::Point;
 use plane::PointAnswer;
 use plane::RectAnswer;
+use stretch::StretchAnswer;
 
 // The first count of the words are the reply's; none beside a number that is not 0.
 pub struct Reply {
@@ -284,4 +285,15 @@ fn wide(x: u8) -> u64
     ensures { λ r. ⌜ r ≡ x ⌝ }
 {
     x as u64
+}
+
+// The first sample and the count of samples, beside every number.
+pub fn of_stretch(a: StretchAnswer) -> Reply
+    ensures { λ r. ⌜ r ≡ stretchReply a ⌝ }
+{
+    Reply {
+        number: a.number,
+        count: 2,
+        words: [a.first as u64, a.count as u64, 0, 0, 0, 0, 0, 0],
+    }
 }

@@ -1,7 +1,7 @@
 // The arguments of a request, by the place of their first word: 0 is the operation.
 ghost use mathlib.Core.Path.{_≡_};
 ghost use Prim.Native.Nat.{_+_, _≤_, _<_};
-ghost use Rattle.answers.specs.Request.{wordOf, wordUpTo, floatAt, pointAt, intervalAt, rectAt, uvAt, vectorAt, numberAt, whoseAt, yesAt, axisAt};
+ghost use Rattle.answers.specs.Request.{wordOf, wordUpTo, floatAt, pointAt, intervalAt, rectAt, uvAt, vectorAt, floatsAt, numberAt, whoseAt, yesAt, axisAt};
 use cube::Vector;
 use cube::compute::Uv;
 use line::Axis;
@@ -75,6 +75,31 @@ pub(crate) fn vector_at(s: &[u8], k: usize) -> Vector
         y: float_at(s, k + 1),
         z: float_at(s, k + 2),
     }
+}
+
+// The sixteen from a place on.
+pub(crate) fn floats_at(s: &[u8], k: usize) -> [f64; 16]
+    requires { ⌜ k < 9 ⌝ }
+    ensures { λ r. ⌜ r ≡ floatsAt (now (s .entry)) k ⌝ }
+{
+    [
+        float_at(s, k),
+        float_at(s, k + 1),
+        float_at(s, k + 2),
+        float_at(s, k + 3),
+        float_at(s, k + 4),
+        float_at(s, k + 5),
+        float_at(s, k + 6),
+        float_at(s, k + 7),
+        float_at(s, k + 8),
+        float_at(s, k + 9),
+        float_at(s, k + 10),
+        float_at(s, k + 11),
+        float_at(s, k + 12),
+        float_at(s, k + 13),
+        float_at(s, k + 14),
+        float_at(s, k + 15),
+    ]
 }
 
 // The word, or the most where it is larger.

@@ -12,6 +12,7 @@ use crate::rects;
 use crate::reply;
 use crate::reply::Reply;
 use crate::request;
+use crate::stretched;
 
 pub fn reply_of(s: &[u8]) -> Reply
     ensures { λ r. ⌜ r ≡ replyOf (now (s .entry)) ⌝ }
@@ -40,6 +41,9 @@ pub fn reply_of(s: &[u8]) -> Reply
     }
     if op <= 59 {
         return lines::line_op(op, s);
+    }
+    if op <= 63 {
+        return stretched::stretch_op(op, s);
     }
     reply::only(255)
 }

@@ -4,7 +4,7 @@ ghost use Prim.Native.Nat.{_+_, _≤_};
 ghost use lib.ListN.{length};
 ghost use Rattle.buffer.specs.Bytes.{stored};
 ghost use Rattle.trace.specs.Answers.{answerOf, bufferAfter};
-ghost use Rattle.answers.specs.Traced.{tracedLine, floatsOf, traceLineOn, traceLine};
+ghost use Rattle.answers.specs.Traced.{tracedLine, traceLineOn, traceLine};
 use crate::lent;
 use crate::request;
 use plane::Rect;
@@ -24,7 +24,7 @@ fn put_trace_on(touches: bool, out: &mut [u8], to: usize, s: &[u8], lent: &mut [
     requires { ⌜ (to + 873 ≤ length (now out)) × (length (now lent) ≤ 400) ⌝ }
     ensures { λ r. ⌜ (r ≡ to + length (traceLineOn touches (now (lent .entry)) (now (s .entry)))) × (now (out .exit) ≡ stored (now (out .entry)) to (traceLineOn touches (now (lent .entry)) (now (s .entry)))) × (r ≤ to + 873) ⌝ }
 {
-    let floats = floats_of(s);
+    let floats = request::floats_at(s, 7);
     let n = request::word_up_to(s, 1, 16);
     let window = request::rect_at(s, 3);
     let whose = request::whose_at(s, 23);
@@ -40,30 +40,6 @@ fn cut(touches: bool, samples: &[f64], window: Rect, whose: u32, out: &mut [u8])
         return trace::cut_trace_with_touches(samples, window, whose, out);
     }
     trace::cut_trace(samples, window, whose, out)
-}
-
-// The words that may be floats.
-fn floats_of(s: &[u8]) -> [f64; 16]
-    ensures { λ r. ⌜ r ≡ floatsOf (now (s .entry)) ⌝ }
-{
-    [
-        request::float_at(s, 7),
-        request::float_at(s, 8),
-        request::float_at(s, 9),
-        request::float_at(s, 10),
-        request::float_at(s, 11),
-        request::float_at(s, 12),
-        request::float_at(s, 13),
-        request::float_at(s, 14),
-        request::float_at(s, 15),
-        request::float_at(s, 16),
-        request::float_at(s, 17),
-        request::float_at(s, 18),
-        request::float_at(s, 19),
-        request::float_at(s, 20),
-        request::float_at(s, 21),
-        request::float_at(s, 22),
-    ]
 }
 
 // The number, the counts and the bytes; the place after them.

@@ -20,6 +20,8 @@ use Rattle.walk.specs.Answers.{walkOrRefusal, bufferAfter}
 use Rattle.walk.specs.declared.compute.WalkAnswer.{WalkAnswer}
 use Rattle.trace.specs.Answers as trace
 use Rattle.trace.specs.declared.TraceAnswer.{TraceAnswer}
+use Rattle.stretch.specs.Answers.{stretchOf}
+use Rattle.stretch.specs.declared.StretchAnswer.{StretchAnswer}
 use Rattle.instances.specs.Numbers.{n0, -n0, -n1, tiny, n2+, n¼, n½, n¾, n1, n1½, n2, n3, n4, most, most+, huge, -huge, notANumber, x_to_y_to_}
 
 -- an edge's answer: its number, and the kept points or zeros
@@ -52,6 +54,10 @@ oneKept = record { number = 0; kept = 1; missed = 0; refused = 0; edges = 1 }
 
 abbrev pub oneMissed : TraceAnswer
 oneMissed = record { number = 0; kept = 0; missed = 1; refused = 0; edges = 1 }
+
+-- the longest clean stretch of samples in x 0..4, y 0..1
+abbrev pub stretched : List Float → StretchAnswer
+stretched fs = stretchOf fs (x n0 to n4 y n0 to n1)
 
 -- P13's records: the faces 0, 1 and 3, each with three zero bytes after it and then whose it is; a float of 0, 1 or -1 is its last two bytes after six zeros
 abbrev pub word : ℕ → ℕ → List ℕ → List ℕ
@@ -129,3 +135,10 @@ pub record Instances : Type 0 where
   pub face-six : walked 400 up 6 5 ≡ record { number = 4; count = 0 }
   pub target-five : walked 400 up 0 5 ≡ record { number = 7; count = 0 }
   pub target-six : walked 400 up 0 6 ≡ record { number = 4; count = 0 }
+  -- of W4: a dead sample in the middle parts the trace, and one on a side is in
+  pub stretch-dead : stretched (n0 ∷ n1 ∷ n1 ∷ notANumber ∷ n2 ∷ n1 ∷ n3 ∷ n½ ∷ []) ≡ record { number = 0; first = 2; count = 2 }
+  -- the earlier of two that are as long
+  pub stretch-equal : stretched (n0 ∷ n1 ∷ n1 ∷ n2 ∷ n2 ∷ n1 ∷ []) ≡ record { number = 0; first = 0; count = 1 }
+  -- no clean sample; an odd count of floats
+  pub stretch-none : stretched (n1 ∷ n2 ∷ notANumber ∷ n1 ∷ []) ≡ record { number = 0; first = 0; count = 0 }
+  pub stretch-odd : stretched (n0 ∷ n1 ∷ n1 ∷ []) ≡ record { number = 10; first = 0; count = 0 }

@@ -19,12 +19,13 @@ use Rattle.trace.specs.Trace.{traceCuts}
 use Rattle.trace.specs.Records.{recordsOf, howMany}
 use Rattle.trace.specs.Promises.{Joined}
 use Rattle.trace.proofs.Cuts.{length-trace, no-edge, length-records}
-use Rattle.run_trace.specs.Samples.{floatsIn, floatsOf, floatsFrom, lastSample}
+use Rattle.reading.specs.Samples.{floatsIn, floatsOf, floatsFrom}
+use Rattle.reading.proofs.Floats.{length-floats}
+use Rattle.run_trace.specs.Samples.{lastSample}
 use Rattle.run_trace.specs.Pieces.{after, pieceFloats, lastAfter, bytesFor, Blocks, joinedBlocks, recordsOfBlocks, countOfBlocks}
 use Rattle.run_trace.specs.Promises.{pieceCuts}
 use Rattle.run_trace.proofs.Cutting.{last-is}
 use Rattle.run_trace.proofs.Pieces as Join
-use Rattle.run_trace.proofs.Pieces.{length-floats}
 
 -- ---- the last sample of a piece with samples is the same whatever stands before it
 last-any : (p : Point) (fs : List Float) → 2 ≤ length fs → lastSample fs ≡ lastSample (after p fs)

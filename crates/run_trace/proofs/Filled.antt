@@ -1,22 +1,22 @@
 -- The floats of a piece, as they stand in the buffer that they are read into.
 use Prim.Native.Nat.{ℕ, _+_, _≤_}
 use native.Mathlib.Omega.{arith}
-use mathlib.Core.Path.{_≡_, refl, sym, ap, subst, _∙_}
+use mathlib.Core.Path.{_≡_, refl, ap, subst, _∙_}
 use mathlib.Core.Bool.{Bool, true, false}
 use mathlib.Core.List.{List, [], _∷_, _++_}
 use lib.Dec.{leb}
 use lib.Ieee.{Float}
 use lib.ListN.{length, set, length-set, take, replicate, length-replicate}
 use Rattle.float.specs.Choice.{when_then_else_}
-use Rattle.float.proofs.Choice.{when-le}
 use Rattle.plane.specs.declared.point.Point.{Point}
 use Rattle.plane.specs.declared.rect.Rect.{Rect}
 use Rattle.trace.specs.Answers.{answerOf}
 use Rattle.trace.specs.declared.TraceAnswer.{TraceAnswer}
-use Rattle.run_trace.specs.Samples.{floatsIn, floatsOf, floatsInto, ownFloats, lastSample}
+use Rattle.reading.specs.Samples.{floatsIn, floatsOf, floatsInto}
+use Rattle.reading.proofs.Floats.{put-in}
+use Rattle.run_trace.specs.Samples.{ownFloats, lastSample}
 use Rattle.run_trace.specs.Pieces.{after, pieceFloats, lastAfter}
 use Rattle.run_trace.proofs.Cutting.{CutOf}
-use Rattle.run_trace.proofs.Pieces.{front}
 
 take-two : (zs : List Float) (x y : Float) → 2 ≤ length zs → take 2 (set (set zs 0 x) 1 y) ≡ x ∷ y ∷ []
 take-two [] x y h = absurd (omega arith)
@@ -38,11 +38,8 @@ module _ (p : Point) (s : List ℕ) (k : ℕ) (z : Float) (two : List Float) (n 
       let zs = replicate k z in
       let size : length zs ≡ k = length-replicate k z in
       let l : length two ≡ length zs = ap length e ∙ simp length-set in
-      let r : 2 + floatsIn s ≤ length two = omega arith in
-      let all : n ≡ 2 + floatsIn s = count ∙ sym (when-le _ _ _ _ _ r refl) in
-      let read : out ≡ floatsInto two 2 (floatsOf s) = floats ∙ sym (when-le _ _ _ _ _ r refl) in
       let first : take 2 two ≡ p .x ∷ p .y ∷ [] = ap (take 2) e ∙ take-two zs (p .x) (p .y) (omega arith) in
-      rw (all, read) (front two s r ∙ ap (_++ floatsOf s) first)
+      put-in two out s 2 n (omega arith) count floats ∙ ap (_++ floatsOf s) first
 
   -- what was cut of it is the piece
   pub cut-of : (touches carried : Bool) (w : Rect) (whose : ℕ) (xs ys : List ℕ) (a : TraceAnswer)

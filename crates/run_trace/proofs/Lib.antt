@@ -1,5 +1,4 @@
 -- Laws that the proofs of this crate cite.
-pub mod Reading
 pub mod Cutting
 pub mod Pieces
 pub mod Filled

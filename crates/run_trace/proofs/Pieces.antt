@@ -1,14 +1,12 @@
 -- An input cut between samples: its floats are those of its parts, and the join law does the rest.
 use Prim.Native.Nat.{ℕ, zero, suc, _+_, _-_, _*_, _%_, _≤_}
 use native.Mathlib.Omega.{arith}
-use native.Mathlib.Nat.{add-zero}
-use native.Mathlib.Numerals.{add-one}
 use mathlib.Core.Path.{_≡_, refl, sym, ap, subst, _∙_}
 use mathlib.Core.Bool.{Bool}
-use mathlib.Core.List.{List, [], _∷_, _++_, append-assoc, append-nil}
+use mathlib.Core.List.{List, [], _∷_, _++_, append-assoc}
 use lib.Ieee.{Float, nan, binary64, ofBits}
-use lib.ListN.{length, set, length-set, take, drop, getD, length-append, length-drop, take-append-drop, drop-of-length-le}
-use lib.Seq.{length-take-le, take-append-le, drop-append-le, drop-append-add, drop-cons, take-suc-set}
+use lib.ListN.{length, take, drop, getD, length-append, length-drop, take-append-drop, drop-of-length-le}
+use lib.Seq.{length-take-le, take-append-le, drop-append-le, drop-append-add, drop-cons}
 use Rattle.float.proofs.Choice.{when-le}
 use Rattle.buffer.specs.Bytes.{word, wordAt}
 use Rattle.plane.specs.Point.{at}
@@ -17,7 +15,9 @@ use Rattle.plane.specs.declared.rect.Rect.{Rect}
 use Rattle.trace.specs.Trace.{traceCuts}
 use Rattle.trace.specs.Promises.{Joined}
 use Rattle.trace.proofs.Joins.{joins}
-use Rattle.run_trace.specs.Samples.{floatAt, floatsIn, floatsFrom, floatsOf, floatsInto, lastSample}
+use Rattle.reading.specs.Samples.{floatAt, floatsIn, floatsFrom, floatsOf}
+use Rattle.reading.proofs.Floats.{length-floats}
+use Rattle.run_trace.specs.Samples.{lastSample}
 use Rattle.run_trace.specs.Pieces.{after}
 use Rattle.run_trace.proofs.Cutting.{last-is}
 
@@ -66,11 +66,6 @@ floats-split s i (suc n) m =
     let j : i + suc n ≡ i + 1 + n = omega arith in
     rw (z, j) (ap (λ (l : List Float). floatAt s (8 * i) ∷ l) (floats-split s (i + 1) n m))
 
-pub length-floats : (s : List ℕ) (i k : ℕ) → length (floatsFrom s i k) ≡ k
-unfolding floatsFrom
-length-floats s i zero = refl
-length-floats s i (suc k) = ap suc (length-floats s (i + 1) k)
-
 floats-join : (s t : List ℕ) → length s % 16 ≡ 0 → floatsOf (s ++ t) ≡ floatsOf s ++ floatsOf t
 floats-join s t e =
     let n = floatsIn s in
@@ -80,23 +75,6 @@ floats-join s t e =
     let l = floats-left s t 0 n (omega arith) in
     let r = ap (λ (j : ℕ). floatsFrom (s ++ t) j m) z ∙ floats-right s t n 0 m (omega arith) (omega arith) in
     ap (floatsFrom (s ++ t) 0) k ∙ floats-split (s ++ t) 0 n m ∙ cc
-
--- ---- floats put into a buffer
-into-front : (xs : List Float) (p : ℕ) (fs : List Float) → p + length fs ≤ length xs → take (p + length fs) (floatsInto xs p fs) ≡ take p xs ++ fs
-unfolding floatsInto
-into-front xs p [] h = rw (add-zero, append-nil)
-into-front xs p (f ∷ fs) h =
-    let k : p + suc (length fs) ≡ p + 1 + length fs = omega arith in
-    let j : p + 1 ≡ suc p = add-one p in
-    let i = into-front (set xs p f) (p + 1) fs (omega (arith, length-set xs p f)) in
-    let one : take (p + 1) (set xs p f) ≡ take p xs ++ (f ∷ []) = rw j (take-suc-set xs p f (omega arith)) in
-    ap (λ (m : ℕ). take m (floatsInto (set xs p f) (p + 1) fs)) k ∙ i ∙ ap (_++ fs) one ∙ append-assoc (take p xs) (f ∷ []) fs
-
-pub front : (xs : List Float) (s : List ℕ) → 2 + floatsIn s ≤ length xs
-    → take (2 + floatsIn s) (floatsInto xs 2 (floatsOf s)) ≡ take 2 xs ++ floatsOf s
-front xs s h =
-    let n = length-floats s 0 (floatsIn s) in
-    ap (λ (k : ℕ). take (2 + k) (floatsInto xs 2 (floatsOf s))) (sym n) ∙ into-front xs 2 (floatsOf s) (omega (arith, n))
 
 -- ---- the last sample
 last-split : (fs : List Float) → 2 ≤ length fs → take (length fs - 2) fs ++ (lastSample fs .x ∷ lastSample fs .y ∷ []) ≡ fs

@@ -1,4 +1,4 @@
--- What the program reads: a window, and then samples; and the word that it may be started with.
+-- The program: the pieces of its samples, what is promised of them, and the words that it may be started with.
 pub mod Samples
 pub mod Pieces
 pub mod Promises

@@ -15,7 +15,8 @@ use Rattle.trace.specs.Answers.{answerOf}
 use Rattle.trace.specs.Records.{recordsOf, howMany}
 use Rattle.trace.specs.declared.TraceAnswer.{TraceAnswer}
 use Rattle.run_trace.specs.declared.Counts.{Counts}
-use Rattle.run_trace.specs.Samples.{floatsOf, lastSample}
+use Rattle.reading.specs.Samples.{floatsOf}
+use Rattle.run_trace.specs.Samples.{lastSample}
 
 -- a sample, then the floats
 abbrev pub after : Point → List Float → List Float

@@ -12,7 +12,7 @@ use Rattle.clip.specs.declared.Clipped.{Clipped}
 use Rattle.trace.specs.Trace.{traceCuts}
 use Rattle.trace.specs.Records.{recordsOf, howMany}
 use Rattle.trace.specs.Promises.{Joined}
-use Rattle.run_trace.specs.Samples.{floatsOf}
+use Rattle.reading.specs.Samples.{floatsOf}
 use Rattle.run_trace.specs.declared.words.Word.the-variants.{Touches}
 use Rattle.run_trace.specs.Words.{touchesLetters, wordOf, asked}
 use Rattle.run_trace.specs.Pieces.{pieceFloats, lastAfter, bytesFor, Blocks, joinedBlocks, recordsOfBlocks, countOfBlocks}

@@ -6,7 +6,6 @@
 // last sample of the piece before it. By the join law their records, one after the other, are those of
 // the whole trace, and their counts add up to its counts: specs/Promises.antt, `whole`.
 mod piece;
-mod samples;
 mod words;
 
 ghost use mathlib.Core.Path.{_≡_};
@@ -174,7 +173,7 @@ fn run(touches: bool, whose: u32) {
         );
         return;
     }
-    let window = samples::window_of(&head);
+    let window = reading::window_of(&head);
     if !clip::refuse::window_fine(window) {
         end(
             begun,

@@ -6,7 +6,6 @@ ghost use lib.ListN.{length, take};
 ghost use Rattle.trace.specs.Answers.{answerOf, bufferAfter};
 ghost use Rattle.run_trace.specs.Samples.{ownFloats, lastSample};
 ghost use Rattle.run_trace.specs.Pieces.{pieceFloats, lastAfter, bytesFor, writtenOf};
-use crate::samples;
 use plane::Point;
 use plane::Rect;
 use trace::TraceAnswer;
@@ -36,7 +35,7 @@ pub(crate) fn cut_piece(
     let mut floats = [0.0f64; 8192];
     floats[0] = before.x;
     floats[1] = before.y;
-    let n = samples::put_samples(bytes, &mut floats);
+    let n = reading::put_samples(bytes, &mut floats, 2);
     let answer = cut_floats(touches, &floats[..n], carried, window, whose, records);
     Piece {
         answer,

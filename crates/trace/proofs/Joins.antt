@@ -15,7 +15,7 @@ use Rattle.trace.specs.Trace.{samplesOf, edgeCut, cutsFrom, cutsOf, trac
 use Rattle.trace.specs.Records.{cutBytes, recordsOf, howMany}
 use Rattle.trace.specs.Promises.{Joined}
 
-samples-join : (fs gs : List Float) → length fs % 2 ≡ 0 → samplesOf (fs ++ gs) ≡ samplesOf fs ++ samplesOf gs
+pub samples-join : (fs gs : List Float) → length fs % 2 ≡ 0 → samplesOf (fs ++ gs) ≡ samplesOf fs ++ samplesOf gs
 unfolding samplesOf
 samples-join [] gs e = refl
 samples-join (x ∷ []) gs e = absurd (omega arith)

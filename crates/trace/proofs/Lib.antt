@@ -2,6 +2,7 @@
 pub mod OneEdge
 pub mod Touch
 pub mod Cuts
+pub mod Samples
 pub mod Writing
 pub mod Exits
 pub mod Joins

@@ -1,6 +1,7 @@
 // What is refused of a trace, in its order: 10, then 3, then 8.
 ghost use Prim.Native.Nat.{_-_, _/_};
 ghost use mathlib.Core.Path.{_≡_};
+ghost use mathlib.Core.Bool.{true};
 ghost use Rattle.clip.specs.Refuse.{windowFine};
 ghost use Rattle.trace.specs.Refuse.{traceFine, roomFor, inOrder};
 use answer::BAD_TRACE;
@@ -18,10 +19,23 @@ pub fn trace(floats: usize, window: Rect, bytes: usize) -> u8
     ensures { λ r. ⌜ r ≡ inOrder (traceFine floats) (windowFine window) (roomFor (floats / 2 - 1) bytes) ⌝ }
 {
     in_order(
-        both(floats % 2 == 0, floats / 2 <= MOST),
+        trace_fine(floats),
         clip::refuse::window_fine(window),
         edge_count(floats) <= bytes / record::LENGTH,
     )
+}
+
+// The same where no bytes are lent: 10, then 3.
+pub fn samples(floats: usize, window: Rect) -> u8
+    ensures { λ r. ⌜ r ≡ inOrder (traceFine floats) (windowFine window) true ⌝ }
+{
+    in_order(trace_fine(floats), clip::refuse::window_fine(window), true)
+}
+
+fn trace_fine(floats: usize) -> bool
+    ensures { λ r. ⌜ r ≡ traceFine floats ⌝ }
+{
+    both(floats % 2 == 0, floats / 2 <= MOST)
 }
 
 // As many edges as samples but one; none of no sample.

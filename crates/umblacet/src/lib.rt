@@ -6,5 +6,6 @@ pub mod intervals;
 pub mod lines;
 pub mod points;
 pub mod rects;
+pub mod stretches;
 pub mod traces;
 pub mod walks;

@@ -1,5 +1,5 @@
 //! The stored list of `crates/answers`, asked of this crate: the lines that the Rust crate s2 gave, with W8's clamp and
-//! W10's rule of touches.
+//! W10's rule of touches, and for the longest clean stretch those that a search over every run of samples gave.
 
 mod words;
 
@@ -10,6 +10,7 @@ use umblacet::r1::interval::Interval;
 use umblacet::r2::{point::Point, rect::Rect};
 use umblacet::s2::edge_clipping;
 use umblacet::s2::stuv;
+use umblacet::stretch::longest_clean;
 use umblacet::trace::{cut_trace, cut_trace_with_touches, Counts};
 use umblacet::Refusal;
 use words::{Arguments, Shown, REQUEST};
@@ -17,6 +18,7 @@ use words::{Arguments, Shown, REQUEST};
 const WALK: u64 = 60;
 const TRACE: u64 = 61;
 const TRACE_WITH_TOUCHES: u64 = 62;
+const STRETCH: u64 = 63;
 const RECORD: usize = 40;
 
 /// A request has room for so many of a trace.
@@ -114,6 +116,7 @@ fn line(request: &[u64; REQUEST]) -> String {
             let (traced, bytes) = trace(request);
             lent(traced.map(|Counts { kept, missed, refused, edges }| [kept, missed, refused, edges]), &bytes)
         }
+        STRETCH => lent(stretch(&mut a), &[]),
         operation => answered(operation, &mut a).unwrap_or_else(|| "255".into()),
     }
 }
@@ -218,6 +221,16 @@ fn trace(request: &[u64; REQUEST]) -> (Result<Counts, Refusal>, Vec<u8>) {
     let samples = &samples[..floats.min(FLOATS as u64) as usize];
     let mut bytes = vec![0xa5; length.min(400) as usize];
     (entry(samples, window, a.take(), &mut bytes), bytes)
+}
+
+/// The place of the part among the samples, and how many it has, by where it is in memory.
+fn stretch(a: &mut Arguments) -> Result<[usize; 2], Refusal> {
+    let (floats, window): (u64, Rect) = (a.take(), a.take());
+    let samples: [f64; FLOATS] = array::from_fn(|_| a.take());
+    let samples = &samples[..floats.min(FLOATS as u64) as usize];
+    let part = longest_clean(samples, window)?;
+    let bytes = part.as_ptr().addr() - samples.as_ptr().addr();
+    Ok([bytes / 16, part.len() / 2])
 }
 
 /// The record of an edge that was cut so.

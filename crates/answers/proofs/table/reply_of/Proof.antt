@@ -64,12 +64,19 @@ returns-8 : tie.Need-returns-8
 unfolding replyOf
 returns-8 c = when-gt _ _ _ _ _ (rw (c .before .before .before .before .before .before .before .before .before .word .ensures) at (c .before .before .before .before .before .before .before .before .if1 .left)) (when-gt _ _ _ _ _ (rw (c .before .before .before .before .before .before .before .before .before .word .ensures) at (c .before .before .before .before .before .before .before .if2 .left)) (when-gt _ _ _ _ _ (rw (c .before .before .before .before .before .before .before .before .before .word .ensures) at (c .before .before .before .before .before .before .if3 .left)) (when-gt _ _ _ _ _ (rw (c .before .before .before .before .before .before .before .before .before .word .ensures) at (c .before .before .before .before .before .if4 .left)) (when-gt _ _ _ _ _ (rw (c .before .before .before .before .before .before .before .before .before .word .ensures) at (c .before .before .before .before .if5 .left)) (when-gt _ _ _ _ _ (rw (c .before .before .before .before .before .before .before .before .before .word .ensures) at (c .before .before .before .if6 .left)) (when-gt _ _ _ _ _ (rw (c .before .before .before .before .before .before .before .before .before .word .ensures) at (c .before .before .if7 .left)) (when-le _ _ _ _ _ (rw (c .before .before .before .before .before .before .before .before .before .word .ensures) at (c .before .if8 .taken)) (rw (c .before .before .before .before .before .before .before .before .before .word .ensures) at (c .line-op .ensures)))))))))
 
-only-requires : tie.Need-only-requires
-only-requires c κs = search needs
+stretch-op-requires : tie.Need-stretch-op-requires
+stretch-op-requires c κs = search needs
 
 returns-9 : tie.Need-returns-9
 unfolding replyOf
-returns-9 c = when-gt _ _ _ _ _ (rw (c .before .before .before .before .before .before .before .before .before .word .ensures) at (c .before .before .before .before .before .before .before .before .if1 .left)) (when-gt _ _ _ _ _ (rw (c .before .before .before .before .before .before .before .before .before .word .ensures) at (c .before .before .before .before .before .before .before .if2 .left)) (when-gt _ _ _ _ _ (rw (c .before .before .before .before .before .before .before .before .before .word .ensures) at (c .before .before .before .before .before .before .if3 .left)) (when-gt _ _ _ _ _ (rw (c .before .before .before .before .before .before .before .before .before .word .ensures) at (c .before .before .before .before .before .if4 .left)) (when-gt _ _ _ _ _ (rw (c .before .before .before .before .before .before .before .before .before .word .ensures) at (c .before .before .before .before .if5 .left)) (when-gt _ _ _ _ _ (rw (c .before .before .before .before .before .before .before .before .before .word .ensures) at (c .before .before .before .if6 .left)) (when-gt _ _ _ _ _ (rw (c .before .before .before .before .before .before .before .before .before .word .ensures) at (c .before .before .if7 .left)) (when-gt _ _ _ _ _ (rw (c .before .before .before .before .before .before .before .before .before .word .ensures) at (c .before .if8 .left)) (c .only .ensures))))))))
+returns-9 c = when-gt _ _ _ _ _ (rw (c .before .before .before .before .before .before .before .before .before .before .word .ensures) at (c .before .before .before .before .before .before .before .before .before .if1 .left)) (when-gt _ _ _ _ _ (rw (c .before .before .before .before .before .before .before .before .before .before .word .ensures) at (c .before .before .before .before .before .before .before .before .if2 .left)) (when-gt _ _ _ _ _ (rw (c .before .before .before .before .before .before .before .before .before .before .word .ensures) at (c .before .before .before .before .before .before .before .if3 .left)) (when-gt _ _ _ _ _ (rw (c .before .before .before .before .before .before .before .before .before .before .word .ensures) at (c .before .before .before .before .before .before .if4 .left)) (when-gt _ _ _ _ _ (rw (c .before .before .before .before .before .before .before .before .before .before .word .ensures) at (c .before .before .before .before .before .if5 .left)) (when-gt _ _ _ _ _ (rw (c .before .before .before .before .before .before .before .before .before .before .word .ensures) at (c .before .before .before .before .if6 .left)) (when-gt _ _ _ _ _ (rw (c .before .before .before .before .before .before .before .before .before .before .word .ensures) at (c .before .before .before .if7 .left)) (when-gt _ _ _ _ _ (rw (c .before .before .before .before .before .before .before .before .before .before .word .ensures) at (c .before .before .if8 .left)) (when-le _ _ _ _ _ (rw (c .before .before .before .before .before .before .before .before .before .before .word .ensures) at (c .before .if9 .taken)) (rw (c .before .before .before .before .before .before .before .before .before .before .word .ensures) at (c .stretch-op .ensures))))))))))
+
+only-requires : tie.Need-only-requires
+only-requires c κs = search needs
+
+returns-10 : tie.Need-returns-10
+unfolding replyOf
+returns-10 c = when-gt _ _ _ _ _ (rw (c .before .before .before .before .before .before .before .before .before .before .word .ensures) at (c .before .before .before .before .before .before .before .before .before .if1 .left)) (when-gt _ _ _ _ _ (rw (c .before .before .before .before .before .before .before .before .before .before .word .ensures) at (c .before .before .before .before .before .before .before .before .if2 .left)) (when-gt _ _ _ _ _ (rw (c .before .before .before .before .before .before .before .before .before .before .word .ensures) at (c .before .before .before .before .before .before .before .if3 .left)) (when-gt _ _ _ _ _ (rw (c .before .before .before .before .before .before .before .before .before .before .word .ensures) at (c .before .before .before .before .before .before .if4 .left)) (when-gt _ _ _ _ _ (rw (c .before .before .before .before .before .before .before .before .before .before .word .ensures) at (c .before .before .before .before .before .if5 .left)) (when-gt _ _ _ _ _ (rw (c .before .before .before .before .before .before .before .before .before .before .word .ensures) at (c .before .before .before .before .if6 .left)) (when-gt _ _ _ _ _ (rw (c .before .before .before .before .before .before .before .before .before .before .word .ensures) at (c .before .before .before .if7 .left)) (when-gt _ _ _ _ _ (rw (c .before .before .before .before .before .before .before .before .before .before .word .ensures) at (c .before .before .if8 .left)) (when-gt _ _ _ _ _ (rw (c .before .before .before .before .before .before .before .before .before .before .word .ensures) at (c .before .if9 .left)) (c .only .ensures)))))))))
 
 pub reply-of-spec : {M : Type 1} → statement M
 reply-of-spec =
@@ -92,5 +99,7 @@ reply-of-spec =
     returns-7
     line-op-requires
     returns-8
+    stretch-op-requires
+    returns-9
     only-requires
-    returns-9)
+    returns-10)

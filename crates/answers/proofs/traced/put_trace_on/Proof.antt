@@ -6,8 +6,8 @@ use borrow.Author.Needs.{needs}
 use Rattle.answers.proofs.traced.put_trace_on.Statement.{statement}
 use Rattle.answers.proofs.traced.put_trace_on.Tie as tie
 
-floats-of-requires : tie.Need-floats-of-requires
-floats-of-requires c κs = search needs
+floats-at-requires : tie.Need-floats-at-requires
+floats-at-requires c κs = search needs
 
 word-up-to-requires : tie.Need-word-up-to-requires
 word-up-to-requires c κs = search needs
@@ -39,14 +39,14 @@ same-length-2 c = search needs
 returns : tie.Need-returns
 returns c =
     let t = c .before .before .before .before .before .before .before .cut .ensures in
-    let e = trace-line _ _ _ _ _ _ _ _ _ (c .before .before .before .before .before .before .before .before .before .before .before .before .before .floats-of .ensures) (c .before .before .before .before .before .before .before .before .before .before .before .before .word-up-to .ensures .0) (c .before .before .before .before .before .before .before .before .before .before .before .rect-at .ensures) (c .before .before .before .before .before .before .before .before .before .before .whose-at .ensures) (t .0) (t .1) in
+    let e = trace-line _ _ _ _ _ _ _ _ _ (c .before .before .before .before .before .before .before .before .before .before .before .before .before .floats-at .ensures) (c .before .before .before .before .before .before .before .before .before .before .before .before .word-up-to .ensures .0) (c .before .before .before .before .before .before .before .before .before .before .before .rect-at .ensures) (c .before .before .before .before .before .before .before .before .before .before .whose-at .ensures) (t .0) (t .1) in
     same-line _ _ _ _ _ _ 873 e (c .before .before .put-traced .ensures)
 
 pub put-trace-on-spec : {M : Type 1} → statement M
 put-trace-on-spec =
     tie.close
     (tie.spec
-    floats-of-requires
+    floats-at-requires
     word-up-to-requires
     rect-at-requires
     whose-at-requires

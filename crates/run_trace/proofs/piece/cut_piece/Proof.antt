@@ -3,7 +3,7 @@ use Prim.Native.Nat.{_+_, _≤_}
 use mathlib.Core.Path.{refl}
 use native.Mathlib.Omega.{arith}
 use lib.ListN.{length-take}
-use Rattle.run_trace.specs.Samples.{floatsIn}
+use Rattle.reading.specs.Samples.{floatsIn}
 use Rattle.run_trace.proofs.Filled.{cut-of, last-of}
 use borrow.Author.Needs.{needs}
 use Rattle.run_trace.proofs.piece.cut_piece.Statement.{statement}

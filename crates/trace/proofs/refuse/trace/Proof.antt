@@ -3,8 +3,8 @@ use borrow.Author.Needs.{needs}
 use Rattle.trace.proofs.refuse.trace.Statement.{statement}
 use Rattle.trace.proofs.refuse.trace.Tie as tie
 
-both-requires : tie.Need-both-requires
-both-requires c κs = search needs
+trace-fine-requires : tie.Need-trace-fine-requires
+trace-fine-requires c κs = search needs
 
 window-fine-requires : tie.Need-window-fine-requires
 window-fine-requires c κs = search needs
@@ -21,4 +21,4 @@ returns c = cc
 pub trace-spec : {M : Type 1} → statement M
 trace-spec =
     tie.close
-    (tie.spec both-requires window-fine-requires edge-count-requires in-order-requires returns)
+    (tie.spec trace-fine-requires window-fine-requires edge-count-requires in-order-requires returns)

@@ -1,0 +1,2 @@
+-- What the programs that take a trace read: a window, and then samples.
+pub mod Samples
