@@ -162,10 +162,15 @@ use clamped::clip_edge;
 #[cfg(feature = "unclamped")]
 use s2::edge_clipping::clip_edge;
 
-// ---- cutting an edge or a whole trace: never both, since the compiler takes `clip_edge` only into a single caller
+// ---- cutting an edge, a whole trace or until an edge is kept: never two of them, since the compiler takes `clip_edge`
+// only into a single caller
 
-#[cfg(not(feature = "trace"))]
+#[cfg(not(any(feature = "trace", feature = "scan")))]
 mod edge;
+#[cfg(any(feature = "trace", feature = "scan"))]
+mod live;
+#[cfg(feature = "scan")]
+mod scan;
 #[cfg(feature = "trace")]
 mod trace;
 

@@ -1,10 +1,12 @@
-/* driver.c: calls the contestants. Each is the same five functions of include/umblacet.h under its own name, or some of
+/* driver.c: calls the contestants. Each is the same functions of include/umblacet.h under its own name, or some of
  * them, and every call goes through the same loop.
  *
  *     driver count CONTESTANT INPUT COUNT ROUNDS    makes COUNT inputs, calls the contestant on each ROUNDS times, and
  *                                                   prints what it answered: how many were done, and a sum of all bits;
  *                                                   a trace is one input of COUNT edges, or where its longest clean
- *                                                   stretch is asked for of COUNT samples, those in it being done
+ *                                                   stretch or its boxes are asked for of COUNT samples, those in the
+ *                                                   stretch being done; where a trace is looked for in pages, COUNT is
+ *                                                   theirs, those being done that it is in
  *     driver time INPUT COUNT ROUNDS                the same for every contestant that is linked in, in turn, and prints
  *                                                   each one's nanoseconds a call in its best round
  *
@@ -31,6 +33,10 @@ typedef umb_walk_answer walk_function(uint8_t face, umb_uv a, uint8_t target, um
 typedef umb_trace_answer trace_function(const double *samples, size_t samples_length, umb_rect window, uint32_t whose,
                                         uint8_t *out, size_t out_length);
 typedef umb_stretch_answer stretch_function(const double *samples, size_t samples_length, umb_rect window);
+typedef umb_pages_answer build_function(const double *samples, size_t samples_length, double *boxes,
+                                        size_t boxes_length);
+typedef umb_kept_answer kept_function(const double *samples, size_t samples_length, umb_rect window,
+                                      const double *boxes, size_t boxes_length);
 
 /* Weak, so that what cannot be built may be left out. */
 #define OPTIONAL __attribute__((weak))
@@ -39,6 +45,7 @@ extern meets_function nothing_intersects_face, crate_intersects_face OPTIONAL;
 extern walk_function nothing_walk, crate_walk OPTIONAL;
 extern trace_function crate_cut_trace OPTIONAL;
 extern stretch_function plain_longest_clean OPTIONAL, plain_longest_clean_at_ends OPTIONAL;
+extern kept_function nothing_first_kept, plain_first_kept OPTIONAL;
 
 /* The record of an edge: its number, three zero bytes, whose it is, then the floats of its answer. The first two are
  * stored apart, which takes four instructions less than one word of both. */
@@ -85,6 +92,21 @@ static umb_trace_answer crate_edge_by_edge(const double *samples, size_t samples
     return counted;
 }
 
+static uint8_t *records;
+static size_t records_length;
+
+/* The first kept edge by the records of all, as it is found where there are no boxes: the first record that says so,
+ * where one does. */
+static umb_kept_answer first_record(const double *samples, size_t samples_length, umb_rect window, const double *boxes,
+                                    size_t boxes_length) {
+    (void)boxes, (void)boxes_length;
+    umb_trace_answer cut = umb_cut_trace_with_touches(samples, samples_length, window, 0, records, records_length);
+    if (cut.number != UMB_DONE || cut.kept == 0) return (umb_kept_answer){cut.number ? cut.number : UMB_MISSED, 0, 0};
+    size_t edge = 0;
+    while (records[edge * RECORD_BYTES] != UMB_DONE) edge++;
+    return (umb_kept_answer){UMB_DONE, edge, 0};
+}
+
 static const struct contestant {
     const char *name;
     cut_function *cut;
@@ -92,15 +114,22 @@ static const struct contestant {
     walk_function *walk;
     trace_function *trace;
     stretch_function *stretch;
+    build_function *build;
+    kept_function *kept;
+    bool opened; /* the boxes that are opened are what is done */
 } contestants[] = {
-    {"ours", umb_clip_edge, umb_intersects_face, umb_walk, umb_cut_trace, umb_longest_clean},
+    {"ours", umb_clip_edge, umb_intersects_face, umb_walk, umb_cut_trace, umb_longest_clean, umb_build_pages,
+     umb_first_kept, false},
+    {"opened", .kept = umb_first_kept, .opened = true},
+    {"records", .kept = first_record},
     {"with-touches", .trace = umb_cut_trace_with_touches},
-    {"crate", crate_clip_edge, crate_intersects_face, crate_walk, crate_edge_by_edge, 0},
+    {"crate", crate_clip_edge, crate_intersects_face, crate_walk, .trace = crate_edge_by_edge},
     {"loop", .trace = crate_cut_trace},
     {"plain", .stretch = plain_longest_clean},
     {"plain-at-ends", .stretch = plain_longest_clean_at_ends},
+    {"plain-scan", .kept = plain_first_kept},
     {"s2", .cut = s2_clip_edge},
-    {"nothing", nothing_clip_edge, nothing_intersects_face, nothing_walk, 0, 0},
+    {"nothing", nothing_clip_edge, nothing_intersects_face, nothing_walk, .kept = nothing_first_kept},
 };
 enum { CONTESTANTS = sizeof contestants / sizeof contestants[0] };
 
@@ -111,6 +140,9 @@ static const struct input {
     walk_input (*walk)(size_t segments);         /* walks */
     size_t segments;
     bool stretch; /* of a trace, its longest clean stretch is asked for */
+    bool build;   /* or its boxes */
+    umb_rect (*page)(size_t i, const double *samples, size_t edges); /* in which a trace is looked for */
+    size_t edges;                                                    /* of that trace */
 } inputs[] = {
     {"random", .make = random_edges},
     {"trace", .make = trace_edges},
@@ -156,6 +188,19 @@ static const struct input {
     {"stretch-in-and-above", .sample = in_and_above, .stretch = true},
     {"stretch-in-and-below", .sample = in_and_below, .stretch = true},
     {"stretch-seldom-dead", .sample = seldom_dead, .stretch = true},
+    {"build", .sample = sample, .build = true},
+    {"pages-beyond-256", .sample = sample, .page = page_beyond, .edges = 255},
+    {"pages-between-256", .sample = sample, .page = page_between, .edges = 255},
+    {"pages-met-256", .sample = sample, .page = page_met, .edges = 255},
+    {"pages-mixed-256", .sample = sample, .page = page_mixed, .edges = 255},
+    {"pages-beyond-1024", .sample = sample, .page = page_beyond, .edges = 1023},
+    {"pages-between-1024", .sample = sample, .page = page_between, .edges = 1023},
+    {"pages-met-1024", .sample = sample, .page = page_met, .edges = 1023},
+    {"pages-mixed-1024", .sample = sample, .page = page_mixed, .edges = 1023},
+    {"pages-beyond-4096", .sample = sample, .page = page_beyond, .edges = 4095},
+    {"pages-between-4096", .sample = sample, .page = page_between, .edges = 4095},
+    {"pages-met-4096", .sample = sample, .page = page_met, .edges = 4095},
+    {"pages-mixed-4096", .sample = sample, .page = page_mixed, .edges = 4095},
 };
 enum { INPUTS = sizeof inputs / sizeof inputs[0], LINE = 4 };
 
@@ -168,9 +213,14 @@ static umb_yes_no *answers;
 static walk_input *walked;
 static umb_walk_answer *ends;
 static double *samples;
+static size_t samples_length; /* of a trace that is looked for in pages */
 static umb_trace_answer counts;
 static umb_stretch_answer longest;
-static uint8_t *records;
+static double *boxes;
+static size_t boxes_length;
+static umb_pages_answer built;
+static umb_rect *pages;
+static umb_kept_answer *found;
 
 static bool is_trace(void) {
     return inputs[input].sample != 0;
@@ -180,17 +230,48 @@ static bool is_stretch(void) {
     return inputs[input].stretch;
 }
 
+static bool is_build(void) {
+    return inputs[input].build;
+}
+
+static bool is_paged(void) {
+    return inputs[input].page != 0;
+}
+
 static bool is_walk(void) {
     return inputs[input].walk != 0;
 }
 
 /* One sample more than edges. */
-static void make_trace(void) {
-    for (size_t i = 0; i <= count; i++) {
-        umb_point p = inputs[input].sample(i, count);
+static void make_trace(size_t edge_count) {
+    for (size_t i = 0; i <= edge_count; i++) {
+        umb_point p = inputs[input].sample(i, edge_count);
         samples[2 * i] = p.x;
         samples[2 * i + 1] = p.y;
     }
+}
+
+/* Five floats for each box of so many edges. */
+static void make_boxes(size_t edge_count) {
+    boxes_length = 5 * (2 * edge_count - 1);
+    boxes = calloc(boxes_length, sizeof *boxes);
+}
+
+/* The trace, its boxes, which are not counted, and the pages. */
+static void make_pages(void) {
+    size_t edge_count = inputs[input].edges;
+    samples_length = 2 * (edge_count + 1);
+    samples = calloc(samples_length, sizeof *samples);
+    make_trace(edge_count);
+    make_boxes(edge_count);
+    umb_build_pages(samples, samples_length, boxes, boxes_length);
+    records_length = edge_count * RECORD_BYTES;
+    records = calloc(edge_count, RECORD_BYTES);
+    pages = calloc(count, sizeof *pages);
+    found = calloc(count, sizeof *found);
+    /* The same draws, however many samples there were. */
+    state = 0;
+    for (size_t i = 0; i < count; i++) pages[i] = inputs[input].page(i, samples, edge_count);
 }
 
 static void make_walks(void) {
@@ -208,7 +289,9 @@ static void make_inputs(void) {
     records = calloc(count, WALK_BYTES);
     /* No byte is right before it is written. */
     for (size_t byte = 0; byte < count * WALK_BYTES; byte++) records[byte] = 0xee;
-    if (is_trace()) make_trace();
+    if (is_build()) make_boxes(count - 1);
+    if (is_paged()) make_pages();
+    else if (is_trace()) make_trace(count);
     else if (input == LINE) normals(lines, count);
     else if (is_walk()) make_walks();
     else inputs[input].make(edges, count);
@@ -238,6 +321,8 @@ static void cut_trace(trace_function *trace) {
 }
 
 static stretch_function *stretch;
+static build_function *build;
+static kept_function *kept;
 
 /* The longest clean stretch, asked for in the place of a cut: of as many samples as there are edges, one fewer than the
  * trace has. */
@@ -248,16 +333,42 @@ static umb_trace_answer find_stretch(const double *trace, size_t length, umb_rec
     return (umb_trace_answer){0};
 }
 
+/* The boxes, asked for in the same place. */
+static umb_trace_answer find_boxes(const double *trace, size_t length, umb_rect window, uint32_t whose, uint8_t *out,
+                                   size_t out_length) {
+    (void)window, (void)whose, (void)out, (void)out_length;
+    built = build(trace, length - 2, boxes, boxes_length);
+    return (umb_trace_answer){0};
+}
+
+/* And each page of a trace. */
+static umb_trace_answer find_pages(const double *trace, size_t length, umb_rect window, uint32_t whose, uint8_t *out,
+                                   size_t out_length) {
+    (void)length, (void)window, (void)whose, (void)out, (void)out_length;
+    for (size_t i = 0; i < count; i++) found[i] = kept(trace, samples_length, pages[i], boxes, boxes_length);
+    return (umb_trace_answer){0};
+}
+
 /* The contestant as the input asks it, so that no call is made dearer by the question. */
 static struct contestant as_asked(struct contestant c) {
     if (is_stretch()) {
         stretch = c.stretch;
         c.trace = find_stretch;
     }
+    if (is_build()) {
+        build = c.build;
+        c.trace = find_boxes;
+    }
+    if (is_paged()) {
+        kept = c.kept;
+        c.trace = find_pages;
+    }
     return c;
 }
 
 static bool has(const struct contestant *c) {
+    if (is_paged()) return c->kept != 0;
+    if (is_build()) return c->build != 0;
     if (is_stretch()) return c->stretch != 0;
     if (is_trace()) return c->trace == crate_edge_by_edge ? c->cut != 0 : c->trace != 0;
     return input == LINE ? c->meets != 0 : is_walk() ? c->walk != 0 : c->cut != 0;
@@ -304,9 +415,21 @@ static void add_stretch(void) {
     add(longest.count);
 }
 
+static void add_boxes(void) {
+    add(built.number);
+    add(built.floats);
+    add_words(boxes, built.floats);
+}
+
 /* Adds answer i to the sum, padding left out, and says whether something was done: kept, met, walked as was due or, of a
- * sample, in the longest clean stretch. */
+ * sample, in the longest clean stretch. How many boxes were opened is not in it, since a scan opens none. */
 static bool add_answer(size_t i) {
+    if (is_build()) return true;
+    if (is_paged()) {
+        add(found[i].number);
+        add(found[i].edge);
+        return found[i].number == UMB_DONE;
+    }
     if (is_stretch()) return longest.first <= i && i - longest.first < longest.count;
     if (is_trace()) {
         add_bytes(records + i * RECORD_BYTES, RECORD_BYTES);
@@ -330,11 +453,15 @@ static bool add_answer(size_t i) {
     return cuts[i].number == UMB_DONE;
 }
 
-static void print_answers(void) {
+static void print_answers(bool opened) {
     size_t done = 0;
     add_counts();
     add_stretch();
-    for (size_t i = 0; i < count; i++) done += add_answer(i);
+    add_boxes();
+    for (size_t i = 0; i < count; i++) {
+        bool is_done = add_answer(i);
+        done += opened ? found[i].opened : is_done;
+    }
     printf("%lu of %lu, sum %016lx\n", (unsigned long)done, (unsigned long)count, (unsigned long)sum);
 }
 
@@ -346,7 +473,7 @@ static int count_calls(const char *name, size_t rounds) {
         struct contestant asked = as_asked(contestants[c]);
         sched_yield(); /* tells step.c that what is to be counted begins */
         for (size_t round = 0; round < rounds; round++) call_all(&asked);
-        print_answers();
+        print_answers(asked.opened);
         return 0;
     }
     return 3;

@@ -227,6 +227,58 @@ static umb_point nan_in_y(size_t i, size_t count) {
     return (umb_point){inside(i, count).x, __builtin_nan("")};
 }
 
+/* ---- pages: windows of one size in which a trace of `sample`, with so many edges, is looked for */
+
+/* As wide as sixteen edges, so that a page sees a part of a rise or of a fall, and a twentieth of the window's height. */
+static umb_rect page_at(double x, double y, size_t edges) {
+    return (umb_rect){{x, x + 16.0 / (double)edges}, {y, y + 0.05}};
+}
+
+/* Beside the box of the whole trace, each side in turn: left, below, right, above. */
+static umb_rect page_beyond(size_t i, const double *samples, size_t edges) {
+    (void)samples;
+    double past = between(0.3, 1.0), along = between(-0.5, 1.5);
+    umb_point p = beyond(i % 4, past, along);
+    return page_at(p.x, p.y, edges);
+}
+
+/* Whether an edge of the trace is kept in the page. The samples' x are 0 to 1 in equal steps, so that only a few have to
+ * be asked. */
+static bool is_met(umb_rect page, const double *samples, size_t edges) {
+    size_t first = (size_t)(page.x.lo * (double)edges);
+    for (size_t i = first > 0 ? first - 1 : 0; i < edges && i < first + 19; i++) {
+        const double *ends = samples + 2 * i;
+        umb_cut cut = umb_clip_edge((umb_point){ends[0], ends[1]}, (umb_point){ends[2], ends[3]}, page);
+        if (cut.number == UMB_DONE) return true;
+    }
+    return false;
+}
+
+/* In the box of the whole trace. */
+static umb_rect page_within(bool met, const double *samples, size_t edges) {
+    for (;;) {
+        double x = between(0.0, 1.0 - 16.0 / (double)edges);
+        umb_rect page = page_at(x, between(-0.15, 1.1), edges);
+        if (is_met(page, samples, edges) == met) return page;
+    }
+}
+
+static umb_rect page_between(size_t i, const double *samples, size_t edges) {
+    (void)i;
+    return page_within(false, samples, edges);
+}
+
+static umb_rect page_met(size_t i, const double *samples, size_t edges) {
+    (void)i;
+    return page_within(true, samples, edges);
+}
+
+/* The last of fifty is met, the others are beyond and between in turn. */
+static umb_rect page_mixed(size_t i, const double *samples, size_t edges) {
+    if (i % 50 == 49) return page_met(i, samples, edges);
+    return i % 2 == 0 ? page_beyond(i / 2, samples, edges) : page_between(i, samples, edges);
+}
+
 /* ---- lines */
 
 /* Normals in a face's u, v, w; with w up to twice the others, half of the lines meet the face. */

@@ -1,8 +1,9 @@
 //! The edges of a whole trace.
 
+use crate::live::live_until;
 use crate::number::{Number, BAD_TRACE, BAD_WINDOW, BUFFER_TOO_SHORT, DONE, MISSED, NOT_FINITE};
 use crate::r2::{point::Point, rect::Rect};
-use crate::{clip_edge, record, CPoint, CRect, RECORD, SQUARE};
+use crate::{clip_edge, record, CPoint, CRect, RECORD};
 use std::slice::{from_raw_parts, from_raw_parts_mut};
 
 const MOST_SAMPLES: usize = 4096;
@@ -80,26 +81,6 @@ fn only_touches(ends: &[CPoint], a: Point, b: Point) -> bool {
 /// Of two numbers, neither a NaN: one comparison and one jump, where `!=` takes a jump more.
 fn differ(x: f64, y: f64) -> bool {
     (x < y) | (y < x)
-}
-
-/// The first sample from this one on that is dead, or the end: eight at a time, then one by one.
-fn live_until(samples: &[CPoint], from: usize) -> usize {
-    let mut at = from;
-    for eight in samples[from..].as_chunks::<8>().0 {
-        let (mut x, mut y) = (0.0, 0.0);
-        for sample in eight {
-            x += sample.x * sample.x;
-            y += sample.y * sample.y;
-        }
-        if !((x <= SQUARE) & (y <= SQUARE)) {
-            break;
-        }
-        at += eight.len();
-    }
-    while at < samples.len() && samples[at].admitted() {
-        at += 1;
-    }
-    at
 }
 
 fn no_points(number: Number, whose: u32) -> [u8; RECORD] {

@@ -2,10 +2,11 @@
  *
  * Every function answers every input: NaN, infinities, empty windows, faces above 5 and short buffers get a number,
  * and nothing traps. An answer is a struct whose first member is that number. Beside any number but UMB_DONE all its
- * other members are zeros (no, face 0, axis U). Nothing is kept between calls, so every function may be called from any
- * thread. Only umb_walk, umb_cut_trace and umb_cut_trace_with_touches are lent memory to write to, and what they leave
- * there is said at "a record"; the samples of a trace are only read. All other arguments are taken by value, and no other
- * function writes anywhere but its answer.
+ * other members are zeros (no, face 0, axis U), with one exception: umb_first_kept counts the boxes that it opened
+ * beside UMB_MISSED too. Nothing is kept between calls, so every function may be called from any thread. Only umb_walk,
+ * umb_cut_trace, umb_cut_trace_with_touches and umb_build_pages are lent memory to write to, and what they leave there
+ * is said at "a record" and at "a box"; the samples of a trace, and the boxes that are searched, are only read. All
+ * other arguments are taken by value, and no other function writes anywhere but its answer.
  *
  * All floats are IEEE 754 binary64, round to nearest, ties to even, which is how a C program starts: a caller that has
  * set another rounding, or flushes subnormals to zero, sets that back before a call. A bool holds 0 or 1. Where finite
@@ -27,14 +28,15 @@ extern "C" {
 
 enum {
     UMB_DONE = 0,         /* kept, or done */
-    UMB_MISSED = 1,       /* no part in the window, or in a trace a touch; a vector not on the asked face's side */
+    UMB_MISSED = 1,       /* no part in the window, or in a trace a touch; in a search, no edge with a part in it; a
+                           * vector not on the asked face's side */
     UMB_NOT_FINITE = 2,   /* a float other than the window's is not finite or, in cutting, beyond 2^500 */
     UMB_BAD_WINDOW = 3,   /* a window side is not finite or beyond 2^500, or lo > hi on an axis */
     UMB_BAD_FACE = 4,     /* a face above 5, an axis above 2, a direction above 1 */
     UMB_ZERO = 5,         /* a vector or normal all zero, or a division by zero */
     UMB_OFF_FACE = 6,     /* the line does not meet a face that is not the target */
     UMB_UNFINISHED = 7,   /* the target is not among the first 8 faces: no longer walk would reach it */
-    UMB_SHORT_BUFFER = 8, /* the buffer holds fewer whole records than there are */
+    UMB_SHORT_BUFFER = 8, /* the buffer holds fewer whole records, or fewer boxes, than there are */
     UMB_BAD_TRACE = 10    /* an odd count of floats, or more than 4,096 samples */
 };
 
@@ -152,6 +154,18 @@ typedef struct umb_stretch_answer {
     uint8_t number;
     size_t first, count;
 } umb_stretch_answer;
+
+/* So many floats of boxes. */
+typedef struct umb_pages_answer {
+    uint8_t number;
+    size_t floats;
+} umb_pages_answer;
+
+/* The edge from sample `edge` of a trace to the next, 0 being the first of all; and how many boxes were opened. */
+typedef struct umb_kept_answer {
+    uint8_t number;
+    size_t edge, opened;
+} umb_kept_answer;
 
 /* ---- points. 2 where a float handed in is not finite, else 0. */
 
@@ -276,6 +290,49 @@ umb_trace_answer umb_cut_trace_with_touches(const double *samples, size_t sample
  * samples_length floats, x and y in turn; the length may be 0, and the pointer is not null. They are only read, and
  * nothing is copied: the part is samples[2 * first] to samples[2 * (first + count) - 1], the caller's own. */
 umb_stretch_answer umb_longest_clean(const double *samples, size_t samples_length, umb_rect window);
+
+/* ---- is the trace on this page at all? The boxes of a trace are built once, and serve every page of it: a search goes
+ * down them to the first edge that is kept, and what lies in a box beside the page is never looked at.
+ *
+ * A box: five floats, written by umb_build_pages for all edges of a trace, for each half of them, for each half of
+ * these and so on, down to single edges; of an odd number of edges the first half is the longer
+ *
+ *     floats 0 to 3    the low x, low y, high x and high y of the live edges below it: those with no dead sample for an
+ *                      end. Of ends that compare equal, as 0 and -0 do, the earliest sample's stands
+ *     float 4          the mark: 1, or 0 where no live edge is below it, and then floats 0 to 3 are 1, 1, 0, 0
+ *
+ * The box of all edges comes first, then all boxes of the first half, then all of the second: 2m - 1 for m edges, none
+ * for none. So the halves of the box at place i, places being counted in boxes, are at i + 1 and, n edges being below
+ * it, at i + 2 * (n - n / 2).
+ *
+ * Both functions call themselves, at most 13 deep, and take at most UMB_PAGES_STACK bytes of stack, which is measured
+ * (tests/c/stack.c) and not proved. */
+
+enum { UMB_PAGES_STACK = 3200 };
+
+/* Writes the boxes of a trace from boxes[0] on, and answers how many floats they are: 5 * (2m - 1) for m edges, which
+ * for a count of samples from 2 on is 10 * count - 15, and 0 for no sample or one. Of these numbers: 10, 8 where fewer
+ * are lent, 0; 40,945 always hold them. It writes no other float: beside 0 those after the last box stay as they were,
+ * bit for bit, and beside any other number all of boxes does. What stood in boxes changes nothing. samples has
+ * samples_length floats, x and y in turn, and boxes has boxes_length; either length may be 0, neither pointer is null,
+ * and the two do not overlap. The samples are only read. */
+umb_pages_answer umb_build_pages(const double *samples, size_t samples_length, double *boxes, size_t boxes_length);
+/* The lowest-numbered edge of the trace that is kept in the window, as umb_cut_trace_with_touches keeps it; so a page
+ * on which an edge is found may draw nothing with umb_cut_trace, which drops what only touches. Of these numbers: 10,
+ * 3, 8 where boxes is shorter than umb_build_pages asks, then 1 where no edge is kept, or 0. Beside 0 and beside 1
+ * stands how many boxes were opened; the edge beside 1, and both beside a refusal, are 0.
+ *
+ * The search opens the box of all edges. One that has no mark (any float but 1, NaN too) or shares no point with the
+ * window (one with a NaN shares none; one that only touches it does) counts as opened, and nothing below it is looked
+ * at; else its first half is searched and, where that has no kept edge, its second. Below the box of a single edge it
+ * is the edge that is asked. So at most 2m - 1 boxes are opened; 0 for no edge, 1 where the box of all is passed over.
+ *
+ * With the boxes that umb_build_pages left for these samples, the edge is the one that a scan of all finds. With any
+ * other floats the same search is answered: an edge that it finds is kept, but one before it may be too, and one may be
+ * where it finds none. samples has samples_length floats, x and y in turn, and boxes has boxes_length; either length
+ * may be 0, and neither pointer is null. Both are only read. */
+umb_kept_answer umb_first_kept(const double *samples, size_t samples_length, umb_rect window, const double *boxes,
+                               size_t boxes_length);
 
 /* ---- the six faces of the cube */
 

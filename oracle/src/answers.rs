@@ -1,12 +1,13 @@
 //! `oracle answers`: the line that the answering program has to give for each request.
 
-use crate::number::{Answer, DONE, NO_SUCH_OPERATION};
+use crate::boxes::{build_pages, first_kept, scan};
+use crate::number::{Answer, Number, DONE, NO_SUCH_OPERATION};
 use crate::r2::rect::Rect;
 use crate::stream::{answer_records, hex, words, write_line};
 use crate::stretch::longest_clean;
 use crate::trace::{cut_trace, Touches};
 use crate::whose::Whose;
-use crate::words::{shown, Arguments};
+use crate::words::{shown, Arguments, Shown};
 use crate::zeros::settle;
 use crate::{clip, cube, line, plane, walk};
 use std::io::{self, Write};
@@ -22,6 +23,9 @@ const UNTOUCHED: u8 = 0xa5;
 
 /// No trace is asked with more floats.
 pub const FLOATS: usize = 16;
+
+/// No boxes are asked with more floats.
+pub const BOXES: usize = 75;
 
 pub fn run(whose: Whose) -> io::Result<()> {
     answer_records(|record: &[u8; 8 * REQUEST], output| answer(&words(record), whose, output))
@@ -42,6 +46,8 @@ pub fn answer(request: &[u64; REQUEST], whose: Whose, output: &mut impl Write) -
         61 => return write_trace(whose, Touches::Dropped, &mut Arguments::new(arguments), output),
         62 => return write_trace(whose, Touches::Kept, &mut Arguments::new(arguments), output),
         63 => return write_stretch(&mut Arguments::new(arguments), output),
+        64 => return write_pages(whose, &mut Arguments::new(arguments), output),
+        65 => return write_kept(whose, &mut Arguments::new(arguments), output),
         _ => {}
     }
     let mut answer = results(operation, whose, &mut Arguments::new(arguments));
@@ -136,6 +142,47 @@ fn write_stretch(a: &mut Arguments, output: &mut impl Write) -> io::Result<()> {
     let floats: [f64; FLOATS] = std::array::from_fn(|_| a.take());
     let samples = &floats[..count.min(FLOATS as u64) as usize];
     write_lent(output, 0, |_| longest_clean(samples, &window))
+}
+
+/// The samples, the window and the floats that are lent as boxes, each of them the fill.
+fn paged(a: &mut Arguments) -> (Vec<f64>, Rect, Vec<f64>) {
+    let (count, length, window): (u64, u64, Rect) = (a.take(), a.take(), a.take());
+    let floats: [f64; FLOATS] = std::array::from_fn(|_| a.take());
+    let samples = floats[..count.min(FLOATS as u64) as usize].to_vec();
+    (samples, window, vec![a.take(); length.min(BOXES as u64) as usize])
+}
+
+/// Boxes that were built find what a scan of all edges finds, at a price that W6 bounds. Whatever the numbers, the line
+/// has all words and every float after the call.
+fn write_pages(whose: Whose, a: &mut Arguments, output: &mut impl Write) -> io::Result<()> {
+    let (samples, window, mut boxes) = paged(a);
+    let (number, floats) = match build_pages(&samples, &mut boxes) {
+        Ok(floats) => (DONE, floats),
+        Err(number) => (number, 0),
+    };
+    let kept = first_kept(whose, &samples, &window, &boxes);
+    if number == DONE {
+        let scanned = scan(whose, &samples, &window);
+        assert_eq!(scanned.unwrap_or(0), kept.1, "the scan and the search: {samples:?} in {window:?}");
+        assert_eq!(scanned.is_some(), kept.0 == DONE, "the scan and the search: {samples:?} in {window:?}");
+        assert!(kept.2 <= samples.len().saturating_sub(3), "more boxes than there are: {samples:?} in {window:?}");
+    }
+    write!(output, "{number} {floats:016x} ")?;
+    write_found(output, kept)?;
+    let mut words = Vec::new();
+    boxes.iter().for_each(|float| float.push_to(&mut words));
+    words.iter().try_for_each(|word| write!(output, " {word:016x}"))?;
+    writeln!(output)
+}
+
+fn write_kept(whose: Whose, a: &mut Arguments, output: &mut impl Write) -> io::Result<()> {
+    let (samples, window, boxes) = paged(a);
+    write_found(output, first_kept(whose, &samples, &window, &boxes))?;
+    writeln!(output)
+}
+
+fn write_found(output: &mut impl Write, (number, edge, opened): (Number, usize, usize)) -> io::Result<()> {
+    write!(output, "{number} {edge:016x} {opened:016x}")
 }
 
 /// The line of a call that is lent a buffer shows its counts and the whole buffer, whatever the number: what was

@@ -10,8 +10,9 @@ use std::io::{self, BufWriter, Write};
 /// ends 0 and 2; c -1 to 1; m the middle of a face; l floats up to module 4's limit and beyond it, w that limit and the
 /// float above it, W their opposites. For a trace: C counts of floats, S six of them; R lengths about whole records, T
 /// about two, E exactly two; d floats of live and dead samples, o 1 or 3; a digit that float, 0 also face 0. N trace
-/// numbers, in short grids of their own; in the others the number is 0.
-const GRID: [(u64, &str); 66] = [
+/// numbers, in short grids of their own; in the others the number is 0. For boxes: B lengths about theirs, X about those
+/// of two edges, Y exactly those; z zeros of both signs and 1; f floats of all sorts that fill the buffer.
+const GRID: [(u64, &str); 73] = [
     (1, "xxxx"),
     (2, "xxxx"),
     (3, "xxx"),
@@ -78,6 +79,13 @@ const GRID: [(u64, &str); 66] = [
     (63, "S0022dddddd"),
     (63, "Shhhhhhhh11"),
     (63, "SWWwwlw1lwl"),
+    (64, "CBe0120031132202133120f"),
+    (64, "SX0022dddddd"),
+    (64, "SYe112hhhhhh0000000000f"),
+    (64, "SYWWwwlwlw1l"),
+    (64, "SY0022zzzzzz"),
+    (65, "CBe0120031132202133120f"),
+    (65, "SYhh12hhhhhh0000000000f"),
 ];
 
 /// Operations up to this one are also asked with all arguments zero, listed or not.
@@ -130,6 +138,11 @@ fn list(letter: char) -> Vec<u64> {
         'T' => vec![79, 80, 81],
         'E' => vec![80],
         'N' => vec![0, 1, 0x0403_0201, 1 << 32, (1 << 32) + 1],
+        'B' => vec![0, 4, 5, 6, 14, 15, 16, 64, 65, 66, 75, 76],
+        'X' => vec![14, 15, 16],
+        'Y' => vec![15],
+        'z' => floats(&[0.0, -0.0, 1.0]),
+        'f' => floats(&[1.0, 0.0, -0.0, 2.5, f64::INFINITY, f64::NAN]),
         'd' => floats(&[1.0, 3.0, f64::NAN, f64::NEG_INFINITY, LIMIT.next_up()]),
         'o' => floats(&[1.0, 3.0]),
         '0'..='9' => floats(&[f64::from(letter as u8 - b'0')]),

@@ -100,7 +100,7 @@ fn walks() {
 
 #[test]
 fn operations() {
-    for operation in [0, 8, 9, 16, 18, 36, 39, 56, 59, 64, 255, 256 + 1, u64::MAX] {
+    for operation in [0, 8, 9, 16, 18, 36, 39, 56, 59, 66, 255, 256 + 1, u64::MAX] {
         assert_eq!(ask(operation, &[]), "255\n", "operation {operation}");
     }
     assert_eq!(ask(19, &[]), done(&[1.0, 1.0, 0.0, 0.0]), "the empty rectangle");

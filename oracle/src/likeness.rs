@@ -26,6 +26,8 @@ pub fn compare(results: &str, a: &[u8], b: &[u8]) -> Likeness {
     match results {
         "W" => return compare_lent::<1>(&a, &b, compare_segments),
         "T" => return compare_lent::<4>(&a, &b, compare_edges),
+        // W6 fixes every zero's sign and the line every NaN's bits.
+        "H" => return Different,
         _ => {}
     }
     let floats: Vec<bool> = results.chars().flat_map(floats_in).collect();
@@ -46,14 +48,14 @@ fn floats_in(kind: char) -> std::iter::RepeatN<bool> {
         'v' => (true, 3),
         'r' => (true, 4),
         'b' | 'F' => (false, 1),
-        'P' => (false, 2),
+        'P' | 'K' => (false, 2),
         _ => unreachable!("no kind of result is called {kind}"),
     };
     std::iter::repeat_n(float, count)
 }
 
 /// The groups after a 0. After another number the text itself counts: a refused walk's or trace's line shows its whole
-/// buffer, that of a refused stretch its two counts.
+/// buffer, that of a refused stretch its two counts, that of a search its edge and its count.
 fn carried(line: &[u8]) -> Option<Vec<&[u8]>> {
     let groups = line.strip_prefix(b"0 ")?.strip_suffix(b"\n")?;
     Some(groups.split(|byte| *byte == b' ').collect())
@@ -157,7 +159,7 @@ mod tests {
 
     /// Results with a buffer have no kinds of words.
     fn lent(results: &str) -> bool {
-        ["W", "T"].contains(&results)
+        ["W", "T", "H"].contains(&results)
     }
 
     fn likeness(results: &str, a: &str, b: &str) -> Likeness {
@@ -224,6 +226,31 @@ mod tests {
     }
 
     #[test]
+    fn pages() {
+        let line = "0 0000000000000005 0 0000000000000000 0000000000000001 0000000000000000 7ff8000000000000\n";
+        assert!(likeness("H", line, line) == Same);
+        for other in [
+            "0 0000000000000005 0 0000000000000000 0000000000000001 8000000000000000 7ff8000000000000\n",
+            "0 0000000000000005 0 0000000000000000 0000000000000001 0000000000000000 fff8000000000000\n",
+            "0 0000000000000005 0 0000000000000000 0000000000000002 0000000000000000 7ff8000000000000\n",
+            "0 0000000000000005 1 0000000000000000 0000000000000001 0000000000000000 7ff8000000000000\n",
+            "0 0000000000000004 0 0000000000000000 0000000000000001 0000000000000000 7ff8000000000000\n",
+            "0 0000000000000005 0 0000000000000000 0000000000000001 0000000000000000\n",
+            "",
+        ] {
+            assert!(likeness("H", line, other) == Different, "{other:?}");
+        }
+        let [missed, kept] = ["1 0000000000000000 0000000000000003\n", "0 0000000000000000 0000000000000003\n"];
+        assert!(likeness("K", missed, missed) == Same && likeness("K", kept, kept) == Same);
+        assert!(likeness("K", missed, kept) == Different);
+        assert!(likeness("K", missed, "1\n") == Different, "no count");
+        for line in [missed, kept] {
+            assert!(likeness("K", line, &line.replace('3', "2")) == Different);
+            assert!(likeness("K", line, &line.replacen(" 0", " 8", 1)) == Different, "-0 is no edge");
+        }
+    }
+
+    #[test]
     fn walks() {
         let line = walk(RECORDS, "a5a5");
         let likeness = |other: &str| likeness("W", &line, other);
@@ -267,7 +294,7 @@ mod tests {
         assert!(compare("T", none.as_bytes(), line.as_bytes()) == Different);
     }
 
-    /// A whole word is 8 at the most, and a float is not always: so the kinds are those of the crate's own answers.
+    /// A whole word is 13 at the most, and a float is not always: so the kinds are those of the crate's own answers.
     #[test]
     fn kinds_of_results() {
         let mut random = Random::new(1);
@@ -280,7 +307,7 @@ mod tests {
             let floats: Vec<bool> = results.chars().flat_map(floats_in).collect();
             assert_eq!(groups.len(), floats.len(), "operation {}", request[0]);
             for (place, group) in groups.iter().enumerate() {
-                if word(group).expect("a word") > 8 {
+                if word(group).expect("a word") > 13 {
                     assert!(floats[place], "operation {}, word {place}", request[0]);
                     great.insert((request[0], place));
                 }

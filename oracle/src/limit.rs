@@ -6,7 +6,7 @@
 use crate::answers::{line_of, request, FLOATS, REQUEST};
 use crate::clip::{admitted, LIMIT};
 use crate::floats::power;
-use crate::operations::{is_limited, is_trace, kinds, words_for, OPERATIONS};
+use crate::operations::{is_limited, is_paged, is_trace, kinds, words_for, OPERATIONS};
 use crate::random::Random;
 use crate::records;
 use crate::requests::request_of;
@@ -50,12 +50,16 @@ fn see(seen: &mut Seen, request: &[u64; REQUEST]) {
     let floats = floats_of(request);
     let refused: Vec<usize> = floats.iter().filter(|(_, x)| !admitted(*x)).map(|(place, _)| *place).collect();
     let line = line_of(request, Whose::Ours);
-    let number: u64 = line.split_whitespace().next().and_then(|number| number.parse().ok()).expect("a number");
+    let groups: Vec<&str> = line.split_whitespace().collect();
+    // Of boxes and the search in them the search's.
+    let number: u64 = groups[if request[0] == 64 { 2 } else { 0 }].parse().expect("a number");
     // A trace without an edge shows nothing of its sample; one that is refused with 10, nothing of its floats.
-    if number > 3 || is_trace(request[0]) && floats.len() < 8 {
+    if number > 3 || (is_trace(request[0]) || is_paged(request[0])) && floats.len() < 8 {
         return;
     }
-    for (place, x) in floats {
+    // Where every box is shut, the search shows nothing of the samples.
+    let shown = if request[0] == 65 && number == 1 && groups[2].ends_with("01") { 6 } else { REQUEST };
+    for (place, x) in floats.into_iter().filter(|(place, _)| *place <= shown) {
         let decides = if admitted(x) { refused.is_empty() && number < 2 } else { refused == [place] };
         for (name, is_such) in CLASSES {
             if decides && is_such(x.abs()) {
@@ -82,12 +86,14 @@ fn must_have_all(seen: &Seen, operation: u64, what: &str) {
 fn requests_about_the_limit() {
     let operations = OPERATIONS.map(|(operation, _, _)| operation).into_iter();
     let limited: Vec<u64> = operations.filter(|operation| is_limited(*operation)).collect();
-    assert_eq!(limited, [30, 31, 32, 33, 34, 35, 61, 62, 63]);
+    assert_eq!(limited, [30, 31, 32, 33, 34, 35, 61, 62, 63, 64, 65]);
     for operation in limited {
         let (mut random, mut seen) = (Random::new(1), Seen::new());
         // Half of those for 61 ask 62.
         let requests = std::iter::repeat_with(|| request_of(&mut random, operation));
-        for request in requests.filter(|request| request[0] == operation).take(ASKED) {
+        // Many of 65 are refused for their room, or show nothing of a sample.
+        let count = if operation == 65 { 2 * ASKED } else { ASKED };
+        for request in requests.filter(|request| request[0] == operation).take(count) {
             see(&mut seen, &request);
         }
         must_have_all(&seen, operation, &format!("operation {operation}"));

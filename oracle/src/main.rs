@@ -2,6 +2,7 @@
 
 mod agree;
 mod answers;
+mod boxes;
 mod clamped;
 #[cfg(test)]
 mod classes;
@@ -23,9 +24,12 @@ mod limit;
 mod line;
 mod near;
 mod number;
+#[cfg(test)]
+mod opened;
 mod operations;
 #[cfg(test)]
 mod page;
+mod pages;
 mod past;
 mod plane;
 mod promises;
@@ -82,10 +86,12 @@ oracle answers < REQUESTS       a line for each 192-byte request, as the answeri
 oracle list < REQUESTS          the same as our definitions have it: zeros that the crate leaves open, and the clamp
 oracle requests N SEED          N seeded requests, every operation among them
 oracle requests N SEED before W4
-                                the same before W4: 63 takes the place of none
+                                the same before W4: 63 takes the place of none, and neither do 64 and 65
 oracle lent N SEED              N seeded requests of the operations that write records
 oracle touching N SEED          N seeded requests of traces with many edges that only touch the window
 oracle stretches N SEED         N seeded requests of the longest clean stretch of a trace
+oracle pages N SEED             N seeded requests of the boxes of a trace and the search in them
+oracle paging N WINDOWS SEED    such requests of N seeded traces, each with so many windows
 oracle before W10 < REQUESTS    these seeded requests as they were before W10, by 61 for 62; before W7, unnumbered too
 oracle past N SEED              searches N seeded requests for what the clamp changes; 1 when it is not as it has to be
 oracle past-requests N SEED     those requests
@@ -129,6 +135,8 @@ fn run(arguments: &[&str]) -> io::Result<bool> {
         ["lent", count, seed] => requests::run(requests::lent, whole(count)?, whole(seed)?)?,
         ["touching", count, seed] => requests::run(touching::request, whole(count)?, whole(seed)?)?,
         ["stretches", count, seed] => requests::run(stretches::request, whole(count)?, whole(seed)?)?,
+        ["pages", count, seed] => requests::run(pages::request, whole(count)?, whole(seed)?)?,
+        ["paging", traces, windows, seed] => pages::run_paging(whole(traces)?, whole(windows)?, whole(seed)?)?,
         ["before", landing] => requests::run_before(landing)?,
         ["past", count, seed] => return past::run(whole(count)?, whole(seed)?),
         ["past-requests", count, seed] => requests::run(past::request, whole(count)?, whole(seed)?)?,

@@ -4,9 +4,11 @@ use crate::answers::FLOATS;
 
 /// f a float, p a point, i an interval, r a rectangle or window, v a vector, n a normal, F a face, A an axis number,
 /// D a direction, b a word that is 0 or not (a yes/no, a corner's side, an axis), L a buffer's length, C a count of
-/// floats, S so many of them in room for the most, N a trace number, always last; W a walk: the count of its records
-/// and the buffer, T a trace: its counts and the buffer, P a part of a trace: its first sample and how many it has.
-pub const OPERATIONS: [(u64, &str, &str); 51] = [
+/// floats, S so many of them in room for the most, N a trace number, always last, B a float that fills a buffer; W a
+/// walk: the count of its records and the buffer, T a trace: its counts and the buffer, P a part of a trace: its first
+/// sample and how many it has, K a kept edge and how many boxes were opened, H boxes of halves: how many floats, then a
+/// search with its number, and the buffer.
+pub const OPERATIONS: [(u64, &str, &str); 53] = [
     (1, "pp", "p"),
     (2, "pp", "p"),
     (3, "pf", "p"),
@@ -58,11 +60,13 @@ pub const OPERATIONS: [(u64, &str, &str); 51] = [
     (61, "CLrSN", "T"),
     (62, "CLrSN", "T"),
     (63, "CrS", "P"),
+    (64, "CLrSB", "H"),
+    (65, "CLrSB", "K"),
 ];
 
-/// A request is drawn from the first so many. 62 and 63 are not among them: 62 takes the place of some 61, and 63 that
-/// of some of any (`requests.rs`), which moves no other request of a seed.
-pub const DRAWN: usize = OPERATIONS.len() - 2;
+/// A request is drawn from the first so many. Those from 62 on are not among them: 62 takes the place of some 61, and 63
+/// to 65 that of some of any (`requests.rs`), which moves no other request of a seed.
+pub const DRAWN: usize = OPERATIONS.len() - 4;
 
 /// The operations whose answers are hardest to get right: they are asked more often.
 pub const HARD: [u64; 7] = [34, 50, 51, 52, 60, 60, 61];
@@ -75,9 +79,14 @@ pub fn is_trace(operation: u64) -> bool {
     matches!(operation, 61 | 62)
 }
 
-/// Module 4, the trace and its longest clean stretch, which admit no float beyond the limit.
+/// The boxes of a trace and the search in them (change request W6).
+pub fn is_paged(operation: u64) -> bool {
+    matches!(operation, 64 | 65)
+}
+
+/// Module 4, the trace, its longest clean stretch and its boxes, which admit no float beyond the limit.
 pub fn is_limited(operation: u64) -> bool {
-    matches!(operation, 30..=35 | 63) || is_trace(operation)
+    matches!(operation, 30..=35 | 63) || is_trace(operation) || is_paged(operation)
 }
 
 /// The kinds of an operation's arguments and of its results; none where it is not listed.
@@ -89,7 +98,7 @@ pub fn kinds(operation: u64) -> (&'static str, &'static str) {
 /// So many words of a request are for an argument of this kind.
 pub fn words_for(kind: char) -> usize {
     match kind {
-        'f' | 'F' | 'A' | 'D' | 'b' | 'L' | 'C' | 'N' => 1,
+        'f' | 'F' | 'A' | 'D' | 'b' | 'L' | 'C' | 'N' | 'B' => 1,
         'p' | 'i' => 2,
         'v' | 'n' => 3,
         'r' => 4,

@@ -14,7 +14,8 @@
 //!
 //! In place of one request of 32 stands one of operation 63, made as `stretches.rs` says. Change request W4 came when
 //! seeds were in use, so it moves no other: it is made of the last word of the request whose place it takes, which that
-//! request's operation does not read, with no draw more. `oracle requests N SEED before W4` has those requests.
+//! request's operation does not read, with no draw more. `oracle requests N SEED before W4` has those requests. Change
+//! request W6 in its turn puts one of operation 64 or 65, made as `pages.rs` says, in place of one of 32.
 //!
 //! `oracle lent`: such requests of the operations that write records alone.
 //! `oracle before`: seeded requests from before W4 as their seed gave them before another change request: before W10 by
@@ -22,11 +23,11 @@
 
 use crate::answers::REQUEST;
 use crate::floats::{at_limit, beyond_limit, neighbour, not_finite, zero, Family};
-use crate::operations::{is_limited, kinds, trace_number_place, words_for, DRAWN, HARD, LENT, OPERATIONS};
+use crate::operations::{is_limited, is_paged, kinds, trace_number_place, words_for, DRAWN, HARD, LENT, OPERATIONS};
 use crate::random::Random;
 use crate::shapes;
 use crate::stream::{read_full, words, write_words};
-use crate::{stretches, traces};
+use crate::{pages, stretches, traces};
 use std::io::{self, BufReader, BufWriter, Write};
 
 #[derive(Clone, Copy)]
@@ -54,7 +55,24 @@ pub fn run(request: fn(&mut Random) -> [u64; REQUEST], count: u64, seed: u64) ->
 }
 
 pub fn request(random: &mut Random) -> [u64; REQUEST] {
+    page_or(before_w6(random))
+}
+
+pub fn before_w6(random: &mut Random) -> [u64; REQUEST] {
     stretch_or(before_w4(random))
+}
+
+/// A request of 64 or 65 in place of some. The word that it is made of has told whether 63 stands there, so that it is
+/// taken with every bit turned.
+pub fn page_or(request: [u64; REQUEST]) -> [u64; REQUEST] {
+    let last = REQUEST - 1;
+    let mut random = Random::new(!request[last]);
+    let is_read = is_paged(request[0]) || trace_number_place(request[0]) == Some(last);
+    if !is_read && random.once_in(32) {
+        pages::request(&mut random)
+    } else {
+        request
+    }
 }
 
 /// A request of 63 in place of some, made of a word that was drawn and is not read.
@@ -68,13 +86,13 @@ pub fn stretch_or(request: [u64; REQUEST]) -> [u64; REQUEST] {
     }
 }
 
-/// Before W4 63 was not listed. Where any word is the operation and it is 63, the others are drawn as they were then:
-/// the requests after it stay.
+/// Before W4 63 was not listed, nor 64 and 65. Where any word is the operation and it is one of them, the others are
+/// drawn as they were then: the requests after it stay.
 pub fn before_w4(random: &mut Random) -> [u64; REQUEST] {
     match operation(random) {
-        63 => {
+        operation @ 63..=65 => {
             let mut request = request_of(random, UNLISTED);
-            request[0] = 63;
+            request[0] = operation;
             request
         }
         operation => request_of(random, operation),
@@ -125,6 +143,7 @@ pub fn request_of(random: &mut Random, operation: u64) -> [u64; REQUEST] {
         55 if random.coin() => shapes::at_corner(random),
         61 | 62 => traces::arguments(random),
         63 => stretches::arguments(random),
+        64 | 65 => pages::arguments(random, operation),
         _ => plain_arguments(random, operation),
     };
     spoil(random, operation, &mut floats_of(&mut arguments));

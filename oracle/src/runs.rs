@@ -8,7 +8,7 @@ use crate::finite::Floats;
 use crate::r1::interval::Interval;
 use crate::r2::{point::Point, rect::Rect};
 use crate::random::Random;
-use crate::requests::{before_w4, request as any_request, stretch_or};
+use crate::requests::{before_w4, before_w6, stretch_or};
 use crate::stored;
 use crate::stretch::is_clean;
 use crate::stretches::{input, request};
@@ -172,7 +172,7 @@ fn no_other_request_moves() {
     let (mut random, mut before) = (Random::new(1), Random::new(1));
     let mut taken = 0;
     for _ in 0..20_000 {
-        let (request, before) = (any_request(&mut random), before_w4(&mut before));
+        let (request, before) = (before_w6(&mut random), before_w4(&mut before));
         assert_eq!(request, stretch_or(before));
         if request != before {
             assert_eq!(request[0], 63);

@@ -6,7 +6,7 @@ use crate::random::Random;
 use crate::requests::{before_w10, before_w4, before_w7, lent};
 use crate::stream::words;
 use crate::whose::Whose;
-use crate::{stretches, touching};
+use crate::{pages, stretches, touching};
 use std::collections::BTreeSet;
 
 const REQUESTS: &[u8] = include_bytes!("../../crates/answers/stdin");
@@ -58,18 +58,28 @@ fn must_differ(from_grid: &[Request]) {
     assert_eq!(pairs.len(), from_grid.len(), "run oracle/store");
 }
 
-/// The operation and the number that it gives.
+/// The operation and the number that it gives; boxes and the search in them give two.
 pub fn answered(request: &Request) -> (u64, String) {
     let line = line_of(request, Whose::Ours);
-    (request[0], line.split_whitespace().next().expect("a line begins with a number").to_string())
+    let groups: Vec<&str> = line.split_whitespace().collect();
+    (request[0], if request[0] == 64 { format!("{},{}", groups[0], groups[2]) } else { groups[0].to_string() })
+}
+
+/// Those before the last that are all of such operations, and these.
+fn last_of<'a>(stored: &'a [Request], operations: &[u64]) -> (&'a [Request], &'a [Request]) {
+    let others = stored.iter().rposition(|request| !operations.contains(&request[0])).expect("other operations");
+    stored.split_at(others + 1)
 }
 
 #[test]
 fn the_parts_in_order() {
     let stored = requests();
-    let stored = must_end(&stored, &seeded(stretches::request, 200, 4));
-    let from_others = stored.iter().rposition(|request| request[0] != 63).expect("other operations");
-    let (stored, from_grid) = stored.split_at(from_others + 1);
+    let stored = must_end(&stored, &seeded(pages::request, 300, 8));
+    let (stored, from_grid) = last_of(stored, &[64, 65]);
+    must_differ(from_grid);
+    assert_eq!(from_grid.iter().map(|request| request[0]).collect::<BTreeSet<_>>(), BTreeSet::from([64, 65]));
+    let stored = must_end(stored, &seeded(stretches::request, 200, 4));
+    let (stored, from_grid) = last_of(stored, &[63]);
     must_differ(from_grid);
     assert!(!from_grid.is_empty());
     let (before, since) = stored.split_at(until_w10());

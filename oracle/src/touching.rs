@@ -26,7 +26,7 @@ pub fn request(random: &mut Random) -> [u64; REQUEST] {
     filled(random, 61, arguments)
 }
 
-fn trace(random: &mut Random) -> (Window, Vec<Sample>) {
+pub fn trace(random: &mut Random) -> (Window, Vec<Sample>) {
     let source = Source::any(random);
     let mut sides = sides(random, source);
     let mut samples = vec![beyond(random, source, sides, [0.0; 2])];
@@ -109,7 +109,7 @@ fn image(before: Sample, at: Sample) -> Sample {
 }
 
 /// A zero; any other float is as it was.
-fn of_either_sign(random: &mut Random, x: f64) -> f64 {
+pub fn of_either_sign(random: &mut Random, x: f64) -> f64 {
     if x == 0.0 {
         zero(random)
     } else {

@@ -32,7 +32,7 @@ pub fn asked(random: &mut Random, window: Window, mut samples: Vec<Sample>) -> V
     head.into_iter().chain(floats).collect()
 }
 
-fn trace(random: &mut Random) -> (Window, Vec<Sample>) {
+pub fn trace(random: &mut Random) -> (Window, Vec<Sample>) {
     let source = Source::any(random);
     let [ax, ay, bx, by, window @ ..] = edge_of(random, source);
     let mut samples = vec![[ax, ay], [bx, by]];
@@ -44,7 +44,7 @@ fn trace(random: &mut Random) -> (Window, Vec<Sample>) {
     (window, samples)
 }
 
-fn kill_some(random: &mut Random, samples: &mut [Sample]) {
+pub fn kill_some(random: &mut Random, samples: &mut [Sample]) {
     let count = match random.below(6) {
         0 | 1 => 1,
         2 => random.between(2, 4),

@@ -186,3 +186,39 @@ pub(crate) fn umb_longest_clean(samples: &[f64], window: Rect) -> Result<Pair<us
     // SAFETY: it is declared as in the header, and is lent a slice: not null, as long as it is told, and only read.
     unsafe { umb_longest_clean(samples.as_ptr(), samples.len(), window) }.result()
 }
+
+/// How many floats were written.
+pub(crate) fn umb_build_pages(samples: &[f64], boxes: &mut [f64]) -> Result<usize, Refusal> {
+    extern "C" {
+        fn umb_build_pages(
+            samples: *const f64,
+            samples_length: usize,
+            boxes: *mut f64,
+            boxes_length: usize,
+        ) -> Numbered<usize>;
+    }
+    // SAFETY: it is declared as in the header, and is lent two slices that do not overlap: not null, as long as it is
+    // told; the samples are only read, and the boxes are no one else's until it is back.
+    unsafe { umb_build_pages(samples.as_ptr(), samples.len(), boxes.as_mut_ptr(), boxes.len()) }.result()
+}
+
+/// The edge, unless none is kept, and how many boxes were opened, which stands beside that number too.
+pub(crate) fn umb_first_kept(samples: &[f64], window: Rect, boxes: &[f64]) -> Result<(Option<usize>, usize), Refusal> {
+    extern "C" {
+        fn umb_first_kept(
+            samples: *const f64,
+            samples_length: usize,
+            window: Rect,
+            boxes: *const f64,
+            boxes_length: usize,
+        ) -> Numbered<Pair<usize>>;
+    }
+    // SAFETY: it is declared as in the header, and is lent two slices: not null, as long as it is told, and only read.
+    let answer = unsafe { umb_first_kept(samples.as_ptr(), samples.len(), window, boxes.as_ptr(), boxes.len()) };
+    let Pair(edge, opened) = answer.value;
+    match Refusal::unless_done(answer.number, edge) {
+        Ok(edge) => Ok((Some(edge), opened)),
+        Err(Refusal::Missed) => Ok((None, opened)),
+        Err(refusal) => Err(refusal),
+    }
+}

@@ -26,6 +26,7 @@ mod refusal;
 
 pub use refusal::Refusal;
 
+pub mod pages;
 pub mod stretch;
 pub mod trace;
 

@@ -22,7 +22,7 @@ pub enum Refusal {
     OffFace = 6,
     /// The walk does not come to the target, and no longer one would.
     Unfinished = 7,
-    /// The buffer holds fewer whole records than there are.
+    /// The buffer holds fewer whole records, or fewer boxes, than there are.
     ShortBuffer = 8,
     /// A trace has an odd count of floats, or more than 4,096 samples.
     BadTrace = 10,
@@ -67,7 +67,7 @@ impl Display for Refusal {
             Refusal::Zero => "a vector, a normal or a divisor is zero",
             Refusal::OffFace => "the line does not meet the face",
             Refusal::Unfinished => "the walk does not come to the target",
-            Refusal::ShortBuffer => "the buffer is too short for the records",
+            Refusal::ShortBuffer => "the buffer is too short for the records or the boxes",
             Refusal::BadTrace => "the trace has an odd count of floats, or more than 4,096 samples",
             Refusal::Unnamed => "a number that has no name here",
         })

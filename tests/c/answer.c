@@ -16,11 +16,16 @@ static void put_word(answer *a, uint64_t word)
     a->words[a->count++] = word;
 }
 
-static void put_float(answer *a, double value)
+uint64_t shown_bits(double value)
 {
     uint64_t bits;
     memcpy(&bits, &value, sizeof bits);
-    put_word(a, value == value ? bits : nan_bits);
+    return value == value ? bits : nan_bits;
+}
+
+static void put_float(answer *a, double value)
+{
+    put_word(a, shown_bits(value));
 }
 
 static void put_point(answer *a, umb_point p)
@@ -173,6 +178,21 @@ answer of_stretch(umb_stretch_answer a)
     return w;
 }
 
+answer of_pages(umb_pages_answer a)
+{
+    answer w = beside(a.number);
+    put_word(&w, a.floats);
+    return w;
+}
+
+answer of_kept(umb_kept_answer a)
+{
+    answer w = beside(a.number);
+    put_word(&w, a.edge);
+    put_word(&w, a.opened);
+    return w;
+}
+
 answer both(answer one, answer other)
 {
     for (size_t i = 0; i < other.count; i++)
@@ -193,4 +213,11 @@ bool zeros_beside_number(const answer *a)
         if (a->number != UMB_DONE && a->words[i] != 0)
             return false;
     return true;
+}
+
+bool zeros_beside_kept(const answer *a)
+{
+    answer asked = *a;
+    asked.count -= a->number == UMB_MISSED;
+    return zeros_beside_number(&asked);
 }

@@ -30,6 +30,11 @@ answer of_axis(umb_axis_answer a);
 answer of_walk(umb_walk_answer a);
 answer of_trace(umb_trace_answer a);
 answer of_stretch(umb_stretch_answer a);
+answer of_pages(umb_pages_answer a);
+answer of_kept(umb_kept_answer a);
+
+/* A float as a line has it: its bits, one NaN for all. */
+uint64_t shown_bits(double value);
 
 /* The words of one, then of the other. Their numbers ought to be the same; a number of its own where they are not. */
 answer both(answer one, answer other);
@@ -37,5 +42,7 @@ answer both(answer one, answer other);
 bool same_answer(const answer *one, const answer *other);
 /* Whether zeros stand beside any number but 0. */
 bool zeros_beside_number(const answer *a);
+/* The same of a search: beside 1 the count of opened boxes, its last word, may be any. */
+bool zeros_beside_kept(const answer *a);
 
 #endif

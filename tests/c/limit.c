@@ -2,6 +2,7 @@
 #include "limit.h"
 
 #include "calls.h"
+#include "pages.h"
 #include "record.h"
 #include "stretch.h"
 #include "trace.h"
@@ -9,13 +10,14 @@
 #include <string.h>
 
 /* The words of an operation: c a coordinate, l a window's low side, h a high one; a digit is that number, r the bytes
- * of a record. */
+ * of a record. Of a search alone, which is lent a box with no mark, the coordinates are not looked at. */
 static const struct operation {
     uint64_t number;
     const char *words;
 } operations[] = {
     {30, "ccccc"},    {31, "cc0c"},     {32, "cccccccc0lh"}, {33, "ccccllhhcccc"},
     {34, "ccccllhh"}, {35, "ccccllhh"}, {61, "4rllhhcccc"},  {62, "4rllhhcccc"}, {63, "4llhhcccc"},
+    {64, "45llhhcccc"}, {65, "45llhh"},
 };
 
 static const double limit = 0x1p500;
@@ -61,6 +63,14 @@ static unsigned number_for_stretch(const answer *a)
     return a->number == UMB_DONE && a->words[1] <= 2 ? numbers[a->words[1]] : a->number;
 }
 
+/* Of one edge: that of the search, but where the box that was built has no mark, it is dead. */
+static unsigned number_for_pages(const request *r)
+{
+    const paged p = pages(r, pages_length(r));
+    const bool dead = r->words[0] == PAGES && p.boxes[4] != 1;
+    return p.found.number == UMB_MISSED && dead ? UMB_NOT_FINITE : p.found.number;
+}
+
 /* The number of an answer; of a trace that is not refused, its edge's. */
 static unsigned number_for(const request *r)
 {
@@ -73,6 +83,8 @@ static unsigned number_for(const request *r)
         const lent s = stretch(r);
         return number_for_stretch(&s.answer);
     }
+    if (r->words[0] == PAGES || r->words[0] == SEARCH)
+        return number_for_pages(r);
     return call(r, &a) ? a.number : UINT8_MAX;
 }
 

@@ -10,13 +10,17 @@ static void write_hex(uint64_t value, unsigned digits)
         putchar("0123456789abcdef"[value >> 4 * --digits & 15]);
 }
 
+static void write_word(uint64_t word)
+{
+    putchar(' ');
+    write_hex(word, 16);
+}
+
 static void write_words(const answer *a)
 {
     printf("%u", a->number);
-    for (size_t i = 0; i < a->count; i++) {
-        putchar(' ');
-        write_hex(a->words[i], 16);
-    }
+    for (size_t i = 0; i < a->count; i++)
+        write_word(a->words[i]);
 }
 
 void write_number(uint8_t number)
@@ -41,5 +45,15 @@ void write_lent(const answer *a, const uint8_t *bytes, size_t length)
         putchar(' ');
     for (size_t i = 0; i < length; i++)
         write_hex(bytes[i], 2);
+    putchar('\n');
+}
+
+void write_both(const answer *one, const answer *other, const double *floats, size_t length)
+{
+    write_words(one);
+    putchar(' ');
+    write_words(other);
+    for (size_t i = 0; i < length; i++)
+        write_word(shown_bits(floats[i]));
     putchar('\n');
 }

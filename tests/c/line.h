@@ -7,6 +7,8 @@
 void write_answer(const answer *a);
 /* The number and the words whatever the number, then the buffer's bytes. */
 void write_lent(const answer *a, const uint8_t *bytes, size_t length);
+/* The same of both, then the buffer's floats. */
+void write_both(const answer *one, const answer *other, const double *floats, size_t length);
 void write_number(uint8_t number);
 
 #endif

@@ -1,10 +1,9 @@
 #include "samples.h"
 
-#include <stdint.h>
 #include <string.h>
 
 /* splitmix64 (Steele, Lea and Flood, 2014) */
-static uint64_t random_word(void)
+uint64_t random_word(void)
 {
     static uint64_t state;
     state += 0x9e3779b97f4a7c15;

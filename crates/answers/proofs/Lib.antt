@@ -2,5 +2,6 @@
 pub mod Cases
 pub mod Run
 pub mod Spaced
+pub mod Grouped
 pub mod ThreeEntries
 pub mod Promises

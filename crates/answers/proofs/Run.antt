@@ -14,7 +14,8 @@ use Rattle.answers.specs.Request.{wordOf}
 use Rattle.answers.specs.Table.{replyOf}
 use Rattle.answers.specs.Walked.{walkLine}
 use Rattle.answers.specs.Traced.{traceLine}
-use Rattle.answers.specs.Number.{numberText, groupsFrom}
+use Rattle.answers.specs.Paged.{pagesLine, firstKeptLine}
+use Rattle.answers.specs.Number.{numberText, groupsFrom, numbered}
 use Rattle.answers.specs.Line.{atMostEight, replyLine, lineOf}
 
 -- ---- the number 255
@@ -50,38 +51,51 @@ pub groups-none : (ws xs whole : List ℕ) (n i p : ℕ) → n ≤ i → stored 
 unfolding groupsFrom stored
 groups-none ws xs whole n i p h f = let m : n - i ≡ 0 = omega arith in rw m at f
 
--- ---- a reply's line: the number, the groups, a line end
-length-reply : (r : Reply) → length (replyLine r) ≡ length (numberText (r .number)) + 17 * atMostEight (r .count) + 1
-unfolding replyLine
-length-reply r = simp (length-append, length-groups) (omega arith)
+-- ---- one run after the other
+pub then-stored : (l m xs ys zs : List ℕ) (to next end : ℕ) → next ≡ to + length l → ys ≡ stored xs to l → end ≡ next + length m → zs ≡ stored ys next m
+    → (end ≡ to + length (l ++ m)) × (zs ≡ stored xs to (l ++ m))
+then-stored l m xs ys zs to next end en ey ee ez = (omega (arith, length-append l m), ez ∙ rw (ey, en) (stored-join xs to l m))
 
-pub reply-stored : (r : Reply) (xs ys zs : List ℕ) (to next count : ℕ) → count ≡ atMostEight (r .count)
-    → next ≡ to + length (numberText (r .number)) → ys ≡ stored xs to (numberText (r .number)) → zs ≡ stored ys next (groupsFrom (r .words) 0 count)
-    → (next + 17 * count + 1 ≡ to + length (replyLine r)) × (set zs (next + 17 * count) 10 ≡ stored xs to (replyLine r))
-unfolding replyLine stored
-reply-stored r xs ys zs to next count ec en ey ez =
-    let gs = groupsFrom (r .words) 0 count in
-    let l : next + 17 * count ≡ next + length gs = omega (arith, length-groups (r .words) 0 count) in
-    let a : stored zs (next + 17 * count) (10 ∷ []) ≡ stored ys next (gs ++ (10 ∷ [])) = rw (ez, l) (stored-join ys next gs (10 ∷ [])) in
-    let b : stored ys next (gs ++ (10 ∷ [])) ≡ stored xs to (numberText (r .number) ++ (gs ++ (10 ∷ []))) = rw (ey, en) (stored-join xs to (numberText (r .number)) (gs ++ (10 ∷ []))) in
-    (omega (arith, length-reply r), rw (← ec) (a ∙ b))
+pub then-byte : (l : List ℕ) (b : ℕ) (xs ys : List ℕ) (to next : ℕ) → next ≡ to + length l → ys ≡ stored xs to l
+    → (next + 1 ≡ to + length (l ++ (b ∷ []))) × (set ys next b ≡ stored xs to (l ++ (b ∷ [])))
+unfolding stored
+then-byte l b xs ys to next en ey = then-stored l (b ∷ []) xs ys (set ys next b) to next (next + 1) en ey refl refl
+
+-- a number, then groups
+pub numbered-stored : (n : ℕ) (ws : List ℕ) (k : ℕ) (xs ys zs : List ℕ) (to next : ℕ) → next ≡ to + length (numberText n) → ys ≡ stored xs to (numberText n)
+    → zs ≡ stored ys next (groupsFrom ws 0 k) → (next + 17 * k ≡ to + length (numbered n ws k)) × (zs ≡ stored xs to (numbered n ws k))
+unfolding numbered
+numbered-stored n ws k xs ys zs to next en ey ez = then-stored (numberText n) (groupsFrom ws 0 k) xs ys zs to next (next + 17 * k) en ey (omega (arith, length-groups ws 0 k)) ez
+
+-- a reply's line: these, then a line end
+pub reply-stored : (r : Reply) (xs ys : List ℕ) (to end count : ℕ) → count ≡ atMostEight (r .count) → end ≡ to + length (numbered (r .number) (r .words) count)
+    → ys ≡ stored xs to (numbered (r .number) (r .words) count) → (end + 1 ≡ to + length (replyLine r)) × (set ys end 10 ≡ stored xs to (replyLine r))
+unfolding replyLine
+reply-stored r xs ys to end count ec en ey = rw (← ec) (then-byte (numbered (r .number) (r .words) count) 10 xs ys to end en ey)
 
 -- ---- the line of a request, by its operation
-pub line-walk : (s : List ℕ) (w : ℕ) → w ≡ wordOf s 0 → w ≡ 60 → walkLine s ≡ lineOf s
-unfolding lineOf
-line-walk s w e h = when-eq _ _ _ _ _ (sym e ∙ h) refl
+module _ (s : List ℕ) (w : ℕ) (e : w ≡ wordOf s 0) where
+  pub line-walk : w ≡ 60 → walkLine s ≡ lineOf s
+  unfolding lineOf
+  line-walk h = when-eq _ _ _ _ _ (sym e ∙ h) refl
 
-pub line-trace : (s : List ℕ) (w : ℕ) → w ≡ wordOf s 0 → (w ≡ 60 → ⊥) → w ≡ 61 → traceLine false s ≡ lineOf s
-unfolding lineOf
-line-trace s w e h g = when-ne _ _ _ _ _ (λ k. h (e ∙ k)) (when-eq _ _ _ _ _ (sym e ∙ g) refl)
+  pub line-trace : w ≡ 61 → traceLine false s ≡ lineOf s
+  unfolding lineOf
+  line-trace h = when-ne (wordOf s 0) 60 _ _ _ (λ k. omega arith) (when-eq _ _ _ _ _ (sym e ∙ h) refl)
 
-pub line-touches : (s : List ℕ) (w : ℕ) → w ≡ wordOf s 0 → w ≡ 62 → traceLine true s ≡ lineOf s
-unfolding lineOf
-line-touches s w e g =
-    let o : wordOf s 0 ≡ 62 = sym e ∙ g in
-    when-ne (wordOf s 0) 60 _ _ _ (λ k. omega arith) (when-ne (wordOf s 0) 61 _ _ _ (λ k. omega arith) (when-eq (wordOf s 0) 62 _ _ _ o refl))
+  pub line-touches : w ≡ 62 → traceLine true s ≡ lineOf s
+  unfolding lineOf
+  line-touches h = when-ne (wordOf s 0) 60 _ _ _ (λ k. omega arith) (when-ne (wordOf s 0) 61 _ _ _ (λ k. omega arith) (when-eq _ _ _ _ _ (sym e ∙ h) refl))
 
-pub line-reply : (s : List ℕ) (w : ℕ) (r : Reply) → w ≡ wordOf s 0 → (w ≡ 60 → ⊥) → (w ≡ 61 → ⊥) → (w ≡ 62 → ⊥) → r ≡ replyOf s → replyLine r ≡ lineOf s
-unfolding lineOf
-line-reply s w r e h g t f =
-    when-ne _ _ _ _ _ (λ k. h (e ∙ k)) (when-ne _ _ _ _ _ (λ k. g (e ∙ k)) (when-ne _ _ _ _ _ (λ k. t (e ∙ k)) (ap replyLine f)))
+  pub line-pages : w ≡ 64 → pagesLine s ≡ lineOf s
+  unfolding lineOf
+  line-pages h = when-ne (wordOf s 0) 60 _ _ _ (λ k. omega arith) (when-ne (wordOf s 0) 61 _ _ _ (λ k. omega arith) (when-ne (wordOf s 0) 62 _ _ _ (λ k. omega arith) (when-eq _ _ _ _ _ (sym e ∙ h) refl)))
+
+  pub line-kept : w ≡ 65 → firstKeptLine s ≡ lineOf s
+  unfolding lineOf
+  line-kept h = when-ne (wordOf s 0) 60 _ _ _ (λ k. omega arith) (when-ne (wordOf s 0) 61 _ _ _ (λ k. omega arith) (when-ne (wordOf s 0) 62 _ _ _ (λ k. omega arith) (when-ne (wordOf s 0) 64 _ _ _ (λ k. omega arith) (when-eq _ _ _ _ _ (sym e ∙ h) refl))))
+
+  pub line-reply : (r : Reply) → (w ≡ 60 → ⊥) → (w ≡ 61 → ⊥) → (w ≡ 62 → ⊥) → (w ≡ 64 → ⊥) → (w ≡ 65 → ⊥) → r ≡ replyOf s → replyLine r ≡ lineOf s
+  unfolding lineOf
+  line-reply r h g t p q f =
+      when-ne _ _ _ _ _ (λ k. h (e ∙ k)) (when-ne _ _ _ _ _ (λ k. g (e ∙ k)) (when-ne _ _ _ _ _ (λ k. t (e ∙ k)) (when-ne _ _ _ _ _ (λ k. p (e ∙ k)) (when-ne _ _ _ _ _ (λ k. q (e ∙ k)) (ap replyLine f)))))

@@ -5,7 +5,7 @@ use mathlib.Core.Path.{_≡_, refl, sym, ap, _∙_}
 use mathlib.Core.Bool.{Bool}
 use mathlib.Core.List.{List, [], _∷_, _++_}
 use lib.Ieee.{Float}
-use lib.ListN.{length, set, getD, take, length-append}
+use lib.ListN.{length, set, getD, take}
 use Rattle.float.proofs.Choice.{when-eq, when-ne}
 use Rattle.buffer.specs.Bytes.{stored}
 use Rattle.buffer.proofs.Stored.{stored-join}
@@ -17,12 +17,12 @@ use Rattle.walk.specs.Answers as Walk
 use Rattle.walk.specs.declared.compute.WalkAnswer.{WalkAnswer}
 use Rattle.trace.specs.Answers.{answerOf, bufferAfter}
 use Rattle.trace.specs.declared.TraceAnswer.{TraceAnswer}
-use Rattle.answers.specs.Number.{numberText, groupsFrom}
+use Rattle.answers.specs.Number.{groupsFrom, numbered}
 use Rattle.answers.specs.Request.{wordUpTo, floatsAt, rectAt, uvAt, vectorAt, numberAt, whoseAt}
 use Rattle.answers.specs.Lent.{lent, twoDigits, bytesFrom, spacedBytes, shownLine}
 use Rattle.answers.specs.Walked.{walkedLine, walkLineOn, walkLine}
 use Rattle.answers.specs.Traced.{tracedLine, traceLineOn, traceLine}
-use Rattle.answers.proofs.Run.{length-groups}
+use Rattle.answers.proofs.Run.{then-stored, then-byte}
 
 length-bytes : (bs : List ℕ) (i k : ℕ) → length (bytesFrom bs i k) ≡ 2 * k
 unfolding bytesFrom twoDigits
@@ -72,20 +72,14 @@ spaced-some bs xs ys to h f =
     let l = length-bytes bs 0 (length bs) in
     (rw (← e) (omega arith), rw (← e) f, omega arith)
 
--- the number, the words, the bytes, a line end
-pub shown-stored : (n k : ℕ) (ws bs xs ys zs us : List ℕ) (to next end : ℕ) → next ≡ to + length (numberText n) → ys ≡ stored xs to (numberText n)
-    → zs ≡ stored ys next (groupsFrom ws 0 k) → end ≡ next + 17 * k + length (spacedBytes bs) → us ≡ stored zs (next + 17 * k) (spacedBytes bs)
-    → (end + 1 ≡ to + length (shownLine n ws k bs)) × (set us end 10 ≡ stored xs to (shownLine n ws k bs))
-unfolding shownLine stored
-shown-stored n k ws bs xs ys zs us to next end en ey ez ee eu =
-    let t = numberText n in
-    let g = groupsFrom ws 0 k in
-    let b = spacedBytes bs in
-    let l : next + 17 * k ≡ next + length g = omega (arith, length-groups ws 0 k) in
-    let p : stored us end (10 ∷ []) ≡ stored zs (next + 17 * k) (b ++ (10 ∷ [])) = rw (eu, ee) (stored-join zs (next + 17 * k) b (10 ∷ [])) in
-    let q : stored zs (next + 17 * k) (b ++ (10 ∷ [])) ≡ stored ys next (g ++ (b ++ (10 ∷ []))) = rw (ez, l) (stored-join ys next g _) in
-    let r : stored ys next (g ++ (b ++ (10 ∷ []))) ≡ stored xs to (t ++ (g ++ (b ++ (10 ∷ [])))) = rw (ey, en) (stored-join xs to t _) in
-    (simp length-append (omega (arith, length-groups ws 0 k)), p ∙ q ∙ r)
+-- the number and the words, the bytes, a line end
+pub shown-stored : (n : ℕ) (ws : List ℕ) (k : ℕ) (bs xs ys zs : List ℕ) (to next end : ℕ) → next ≡ to + length (numbered n ws k) → ys ≡ stored xs to (numbered n ws k)
+    → end ≡ next + length (spacedBytes bs) → zs ≡ stored ys next (spacedBytes bs)
+    → (end + 1 ≡ to + length (shownLine n ws k bs)) × (set zs end 10 ≡ stored xs to (shownLine n ws k bs))
+unfolding shownLine
+shown-stored n ws k bs xs ys zs to next end en ey ee ez =
+    let b = then-byte (spacedBytes bs) 10 ys zs next end ee ez in
+    then-stored (numbered n ws k) (spacedBytes bs ++ (10 ∷ [])) xs ys (set zs end 10) to next (end + 1) en ey (b .0) (b .1)
 
 -- ---- the same line, by another name
 pub same-line : (l m xs ys : List ℕ) (to r k : ℕ) → l ≡ m → (r ≡ to + length l) × (ys ≡ stored xs to l) × (r ≤ to + k)
@@ -93,11 +87,11 @@ pub same-line : (l m xs ys : List ℕ) (to r k : ℕ) → l ≡ m → (r ≡ to 
 same-line l m xs ys to r k e h = (rw (← e) (h .0), rw (← e) (h .1), h .2)
 
 pub walked-line : (a : WalkAnswer) (bs : List ℕ) → shownLine (a .number) (a .count ∷ 0 ∷ 0 ∷ 0 ∷ 0 ∷ 0 ∷ 0 ∷ 0 ∷ []) 1 bs ≡ walkedLine a bs
-unfolding walkedLine shownLine groupsFrom
+unfolding walkedLine shownLine numbered groupsFrom
 walked-line a bs = refl
 
 pub traced-line : (a : TraceAnswer) (bs : List ℕ) → shownLine (a .number) (a .kept ∷ a .missed ∷ a .refused ∷ a .edges ∷ 0 ∷ 0 ∷ 0 ∷ 0 ∷ []) 4 bs ≡ tracedLine a bs
-unfolding tracedLine shownLine groupsFrom
+unfolding tracedLine shownLine numbered groupsFrom
 traced-line a bs = refl
 
 pub walk-line : (xs s bs : List ℕ) (w : WalkAnswer) (f t : ℕ) (a b : Uv) (p : Vector) (o : ℕ) → f ≡ numberAt s 1 → a ≡ uvAt s 2 → t ≡ numberAt s 4 → b ≡ uvAt s 5 → p ≡ vectorAt s 7 → o ≡ whoseAt s 11

@@ -5,7 +5,7 @@ use lib.Dec.{eqb}
 use lib.ListN.{length, take, getD, replicate}
 use Rattle.float.specs.Choice.{when_then_else_}
 use Rattle.buffer.specs.Digits.{digitOf}
-use Rattle.answers.specs.Number.{numberText, groupsFrom}
+use Rattle.answers.specs.Number.{numbered}
 
 -- n bytes a5, 400 at the most
 abbrev pub lent : ℕ → List ℕ
@@ -26,4 +26,4 @@ spacedBytes bs = when eqb (length bs) 0 then [] else (32 ∷ bytesFrom bs 0 (len
 
 -- the number, the first k words, the bytes, a line end
 unfoldable pub shownLine : ℕ → List ℕ → ℕ → List ℕ → List ℕ
-shownLine n ws k bs = numberText n ++ (groupsFrom ws 0 k ++ (spacedBytes bs ++ (10 ∷ [])))
+shownLine n ws k bs = numbered n ws k ++ (spacedBytes bs ++ (10 ∷ []))

@@ -6,5 +6,6 @@ pub mod Number
 pub mod Lent
 pub mod Walked
 pub mod Traced
+pub mod Paged
 pub mod Line
 pub mod Promises

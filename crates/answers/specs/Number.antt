@@ -14,3 +14,7 @@ numberText n = when leb n 9 then ((48 + n) ∷ []) else when leb n 14 then (49 �
 unfoldable pub groupsFrom : List ℕ → ℕ → ℕ → List ℕ
 groupsFrom ws i zero = []
 groupsFrom ws i (suc k) = group (getD ws i 0) ++ groupsFrom ws (i + 1) k
+
+-- a number and the groups of the first k words
+unfoldable pub numbered : ℕ → List ℕ → ℕ → List ℕ
+numbered n ws k = numberText n ++ groupsFrom ws 0 k

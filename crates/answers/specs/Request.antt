@@ -4,6 +4,7 @@ use mathlib.Core.Bool.{Bool, not}
 use mathlib.Core.List.{List, [], _∷_}
 use lib.Dec.{eqb, leb}
 use lib.Ieee.{Float, binary64, ofBits}
+use lib.ListN.{take}
 use Rattle.float.specs.Choice.{when_then_else_}
 use Rattle.buffer.specs.Bytes.{wordAt}
 use Rattle.plane.specs.Point.{at}
@@ -53,6 +54,10 @@ floatsAt s k =
 -- the word, or the most where it is larger
 unfoldable pub wordUpTo : List ℕ → ℕ → ℕ → ℕ
 wordUpTo s k most = when leb (wordOf s k) most then wordOf s k else most
+
+-- the samples from a place on: as many floats as word 1 asks, 16 at the most
+abbrev pub samplesAt : List ℕ → ℕ → List Float
+samplesAt s k = take (wordUpTo s 1 16) (floatsAt s k)
 
 -- a face, axis or direction: 255, above every limit, for a word above it
 unfoldable pub numberAt : List ℕ → ℕ → ℕ

@@ -2,7 +2,6 @@
 use Prim.Native.Nat.{ℕ}
 use mathlib.Core.List.{List}
 use lib.Dec.{eqb, leb}
-use lib.ListN.{take}
 use Rattle.float.specs.Choice.{when_then_else_}
 use Rattle.answer.specs.Answer.{done}
 use Rattle.plane.specs.Rect.{emptyRect}
@@ -14,7 +13,7 @@ use Rattle.cube.specs.Entries.{faceOrRefusal, faceUvOrRefusal, uvOrRefusal, xyz
 use Rattle.line.specs.Entries.{sumEqualOrRefusal, meetsFaceOrRefusal, oppositeEdgesOrRefusal, exitAxisOrRefusal, exitPointOrRefusal, nextFaceOrRefusal}
 use Rattle.stretch.specs.Answers.{stretchOf}
 use Rattle.answers.specs.declared.reply.Reply.{Reply}
-use Rattle.answers.specs.Request.{wordOf, floatAt, pointAt, intervalAt, rectAt, uvAt, vectorAt, floatsAt, wordUpTo, numberAt, yesAt, axisAt}
+use Rattle.answers.specs.Request.{wordOf, floatAt, pointAt, intervalAt, rectAt, uvAt, vectorAt, samplesAt, numberAt, yesAt, axisAt}
 use Rattle.answers.specs.Reply.{onlyReply, yesNoReply, axisReply, pointsReply, cornersReply, clippedReply, floatReply, pointReply, intervalReply, rectReply, axesReply, faceReply, faceUvReply, uvReply, vectorReply, stretchReply}
 
 -- an operation that is not listed
@@ -104,13 +103,12 @@ lineOp op s =
     else when eqb op 55 then faceReply (nextFaceOrRefusal (numberAt s 1) (uvAt s 2) (axisAt s 4) (vectorAt s 5) (numberAt s 8))
     else unlisted
 
--- of so many floats as asked, 16 at the most
 unfoldable pub stretchOp : ℕ → List ℕ → Reply
 stretchOp op s =
-    when eqb op 63 then stretchReply (stretchOf (take (wordUpTo s 1 16) (floatsAt s 6)) (rectAt s 2))
+    when eqb op 63 then stretchReply (stretchOf (samplesAt s 6) (rectAt s 2))
     else unlisted
 
--- the reply to a request, for every operation but 60, 61 and 62
+-- the reply to a request, for every operation but 60, 61, 62, 64 and 65
 unfoldable pub replyOf : List ℕ → Reply
 replyOf s =
     let op = wordOf s 0 in

@@ -2,19 +2,19 @@
 use Prim.Native.Nat.{ℕ}
 use mathlib.Core.Bool.{Bool}
 use mathlib.Core.List.{List, [], _∷_}
-use lib.ListN.{length, take}
+use lib.ListN.{length}
 use Rattle.trace.specs.Answers.{answerOf, bufferAfter}
 use Rattle.trace.specs.declared.TraceAnswer.{TraceAnswer}
-use Rattle.answers.specs.Request.{wordUpTo, floatsAt, rectAt, whoseAt}
+use Rattle.answers.specs.Request.{wordUpTo, samplesAt, rectAt, whoseAt}
 use Rattle.answers.specs.Lent.{lent, shownLine}
 
 unfoldable pub tracedLine : TraceAnswer → List ℕ → List ℕ
 tracedLine a bs = shownLine (a .number) (a .kept ∷ a .missed ∷ a .refused ∷ a .edges ∷ []) 4 bs
 
--- the trace of a request on the buffer xs: as many floats as asked, 16 at the most, and the trace number after all of them
+-- the trace of a request on the buffer xs; the trace number stands after all floats
 unfoldable pub traceLineOn : Bool → List ℕ → List ℕ → List ℕ
 traceLineOn touches xs s =
-    let fs = take (wordUpTo s 1 16) (floatsAt s 7) in
+    let fs = samplesAt s 7 in
     let w = rectAt s 3 in
     tracedLine (answerOf touches fs w (length xs)) (bufferAfter touches xs fs w (whoseAt s 23))
 

@@ -19,9 +19,8 @@ pub(crate) fn put_shown(
     requires { ⌜ (k ≤ 8) × (to + 805 + 17 * k ≤ length (now out)) × (length (now bytes) ≤ 400) ⌝ }
     ensures { λ r. ⌜ (r ≡ to + length (shownLine n words k (now (bytes .entry)))) × (now (out .exit) ≡ stored (now (out .entry)) to (shownLine n words k (now (bytes .entry)))) × (r ≤ to + 805 + 17 * k) ⌝ }
 {
-    let next = number::put_number(out, to, n);
-    number::put_groups(out, next, words, k);
-    let end = put_bytes(out, next + 17 * k, bytes);
+    let next = number::put_numbered(out, to, n, words, k);
+    let end = put_bytes(out, next, bytes);
     out[end] = b'\n';
     end + 1
 }

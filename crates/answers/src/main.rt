@@ -6,6 +6,7 @@ mod intervals;
 mod lent;
 mod lines;
 mod number;
+mod paged;
 mod pairs;
 mod points;
 mod rects;
@@ -26,7 +27,7 @@ fn answer_block(run: Run) -> Run {
     let mut requests = [0u8; 65472];
     let got = stream::read_full(STDIN_FILENO, &mut requests);
     let n = got.answered(192);
-    let mut text = [0u8; 297695];
+    let mut text = [0u8; 454896];
     let k = text::put_text(&requests[..n], &mut text);
     let taken = stream::write_all(STDOUT_FILENO, &text[..k]);
     let whole = stream::whole_lines(&text[..k], taken, n / 192);

@@ -1,8 +1,7 @@
 // The longest clean stretch of a trace: 63.
 ghost use mathlib.Core.Path.{_≡_};
-ghost use lib.ListN.{take};
 ghost use Rattle.stretch.specs.Answers.{stretchOf};
-ghost use Rattle.answers.specs.Request.{wordUpTo, floatsAt, rectAt};
+ghost use Rattle.answers.specs.Request.{samplesAt, rectAt};
 ghost use Rattle.answers.specs.Table.{stretchOp};
 use crate::reply;
 use crate::reply::Reply;
@@ -22,7 +21,7 @@ pub fn stretch_op(op: u64, s: &[u8]) -> Reply
 // Of as many floats as asked, 16 at the most, by all three entries: the number, the run's first sample, and the count of
 // samples in the part that is handed back.
 fn stretch_of(s: &[u8]) -> StretchAnswer
-    ensures { λ r. ⌜ r ≡ stretchOf (take (wordUpTo (now (s .entry)) 1 16) (floatsAt (now (s .entry)) 6)) (rectAt (now (s .entry)) 2) ⌝ }
+    ensures { λ r. ⌜ r ≡ stretchOf (samplesAt (now (s .entry)) 6) (rectAt (now (s .entry)) 2) ⌝ }
 {
     let floats = request::floats_at(s, 6);
     let n = request::word_up_to(s, 1, 16);

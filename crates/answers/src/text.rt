@@ -6,6 +6,7 @@ ghost use Rattle.buffer.specs.Bytes.{stored};
 ghost use Rattle.buffer.specs.Text.{written, countWritten};
 ghost use Rattle.answers.specs.Line.{atMostEight, replyLine, lineOf, textOf, room};
 use crate::number;
+use crate::paged;
 use crate::reply::Reply;
 use crate::request;
 use crate::table;
@@ -13,7 +14,7 @@ use crate::traced;
 use crate::walked;
 
 // The text of the requests in s: a line for each, and one more for a torn end. Gives its length, or 0
-// with out as it was where out has no room: 873 bytes for each request, and 2.
+// with out as it was where out has no room: 1,334 bytes for each request, and 2.
 pub fn put_text(s: &[u8], out: &mut [u8]) -> usize
     ensures count { λ r. ⌜ r ≡ countWritten (room (now (s .entry))) (textOf (now (s .entry))) (now (out .entry)) ⌝ }
     ensures bytes { λ _. ⌜ now (out .exit) ≡ written (room (now (s .entry))) (textOf (now (s .entry))) (now (out .entry)) ⌝ }
@@ -23,7 +24,7 @@ pub fn put_text(s: &[u8], out: &mut [u8]) -> usize
     if out.len() < 2 {
         return 0;
     }
-    if (out.len() - 2) / 873 < n {
+    if (out.len() - 2) / 1334 < n {
         return 0;
     }
     let mut i: usize = 0;
@@ -42,8 +43,8 @@ pub fn put_text(s: &[u8], out: &mut [u8]) -> usize
 
 // The line of one request; the place after it.
 fn put_line(out: &mut [u8], to: usize, s: &[u8]) -> usize
-    requires { ⌜ to + 873 ≤ length (now out) ⌝ }
-    ensures { λ r. ⌜ (r ≡ to + length (lineOf (now (s .entry)))) × (now (out .exit) ≡ stored (now (out .entry)) to (lineOf (now (s .entry)))) × (r ≤ to + 873) ⌝ }
+    requires { ⌜ to + 1334 ≤ length (now out) ⌝ }
+    ensures { λ r. ⌜ (r ≡ to + length (lineOf (now (s .entry)))) × (now (out .exit) ≡ stored (now (out .entry)) to (lineOf (now (s .entry)))) × (r ≤ to + 1334) ⌝ }
 {
     let op = request::word(s, 0);
     if op == 60 {
@@ -55,6 +56,12 @@ fn put_line(out: &mut [u8], to: usize, s: &[u8]) -> usize
     if op == 62 {
         return traced::put_trace(true, out, to, s);
     }
+    if op == 64 {
+        return paged::put_pages(out, to, s);
+    }
+    if op == 65 {
+        return paged::put_first_kept(out, to, s);
+    }
     put_reply(out, to, table::reply_of(s))
 }
 
@@ -65,10 +72,9 @@ fn put_reply(out: &mut [u8], to: usize, r: Reply) -> usize
 {
     let words = r.words;
     let count = at_most_eight(r.count);
-    let next = number::put_number(out, to, r.number);
-    number::put_groups(out, next, words, count);
-    out[next + 17 * count] = b'\n';
-    next + 17 * count + 1
+    let end = number::put_numbered(out, to, r.number, words, count);
+    out[end] = b'\n';
+    end + 1
 }
 
 fn at_most_eight(n: usize) -> usize

@@ -6,6 +6,7 @@ use mathlib.Core.List.{List, [], _∷_, _++_}
 use lib.ListN.{replicate}
 use lib.Ieee.{Float}
 use Rattle.plane.specs.Point.{at}
+use Rattle.plane.specs.declared.rect.Rect.{Rect}
 use Rattle.clip.specs.declared.Clipped.{Clipped}
 use Rattle.clip.specs.declared.Segment.{Segment}
 use Rattle.clip.specs.Answers.{clipped, numberOf, pointsOf, meetsOrRefusal}
@@ -22,6 +23,8 @@ use Rattle.trace.specs.Answers as trace
 use Rattle.trace.specs.declared.TraceAnswer.{TraceAnswer}
 use Rattle.stretch.specs.Answers.{stretchOf}
 use Rattle.stretch.specs.declared.StretchAnswer.{StretchAnswer}
+use Rattle.pages.specs.Answers as pages
+use Rattle.pages.specs.declared.KeptAnswer.{KeptAnswer}
 use Rattle.instances.specs.Numbers.{n0, -n0, -n1, tiny, n2+, n¼, n½, n¾, n1, n1½, n2, n3, n4, most, most+, huge, -huge, notANumber, x_to_y_to_}
 
 -- an edge's answer: its number, and the kept points or zeros
@@ -58,6 +61,20 @@ oneMissed = record { number = 0; kept = 0; missed = 1; refused = 0; edges = 1 }
 -- the longest clean stretch of samples in x 0..4, y 0..1
 abbrev pub stretched : List Float → StretchAnswer
 stretched fs = stretchOf fs (x n0 to n4 y n0 to n1)
+
+-- three edges, up and down and to a dead sample: their boxes, of all, of the first two, of each of these, and of the dead one, and then the rest
+abbrev pub hill : List Float
+hill = n0 ∷ n0 ∷ n1 ∷ n1 ∷ n2 ∷ n0 ∷ n3 ∷ notANumber ∷ []
+
+abbrev pub box : Float → Float → Float → Float → Float → List Float → List Float
+box lowX lowY highX highY mark rest = lowX ∷ lowY ∷ highX ∷ highY ∷ mark ∷ rest
+
+abbrev pub hillBoxes : List Float → List Float
+hillBoxes rest =
+    box n0 n0 n2 n1 n1 (box n0 n0 n2 n1 n1 (box n0 n0 n1 n1 n1 (box n1 n0 n2 n1 n1 (box n1 n1 n0 n0 n0 rest))))
+
+abbrev pub paged : Rect → List Float → KeptAnswer
+paged window boxes = pages.keptAnswer hill window boxes
 
 -- P13's records: the faces 0, 1 and 3, each with three zero bytes after it and then whose it is; a float of 0, 1 or -1 is its last two bytes after six zeros
 abbrev pub word : ℕ → ℕ → List ℕ → List ℕ
@@ -142,3 +159,18 @@ pub record Instances : Type 0 where
   -- no clean sample; an odd count of floats
   pub stretch-none : stretched (n1 ∷ n2 ∷ notANumber ∷ n1 ∷ []) ≡ record { number = 0; first = 0; count = 0 }
   pub stretch-odd : stretched (n0 ∷ n1 ∷ n1 ∷ []) ≡ record { number = 10; first = 0; count = 0 }
+  -- of W6: the boxes, and the float after them; a float less is too few, and nothing is written
+  pub pages-built : pages.bufferAfter (replicate 26 -n1) hill ≡ hillBoxes (-n1 ∷ [])
+  pub pages-count : pages.pagesAnswer 8 26 ≡ record { number = 0; floats = 25 }
+  pub pages-short : pages.bufferAfter (replicate 24 -n1) hill ≡ replicate 24 -n1
+  pub pages-refused : pages.pagesAnswer 8 24 ≡ record { number = 8; floats = 0 }
+  -- the second edge: the boxes of all, of both, of the first, which is shut, and of the second
+  pub page-second : paged (x n1½ to n2 y n0 to n1) (hillBoxes []) ≡ record { number = 0; edge = 1; opened = 4 }
+  -- P3: the first edge touches the window, and with touches it is kept
+  pub page-touch : paged (x n1 to n2 y n1 to n2) (hillBoxes []) ≡ record { number = 0; edge = 0; opened = 3 }
+  -- a window past the trace: one box. One in the box of the first edge, which passes it by: all five
+  pub page-missed : paged (x n3 to n4 y n0 to n1) (hillBoxes []) ≡ record { number = 1; edge = 0; opened = 1 }
+  pub page-beside : paged (x n0 to n¼ y n¾ to n1) (hillBoxes []) ≡ record { number = 1; edge = 0; opened = 5 }
+  -- a buffer of NaN opens nothing; one sample has no edge, and no box
+  pub page-nan : paged (x n0 to n4 y n0 to n1) (replicate 25 notANumber) ≡ record { number = 1; edge = 0; opened = 1 }
+  pub page-no-edge : pages.keptAnswer (n1 ∷ n1 ∷ []) (x n0 to n4 y n0 to n1) [] ≡ record { number = 1; edge = 0; opened = 0 }

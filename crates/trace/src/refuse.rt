@@ -32,7 +32,8 @@ pub fn samples(floats: usize, window: Rect) -> u8
     in_order(trace_fine(floats), clip::refuse::window_fine(window), true)
 }
 
-fn trace_fine(floats: usize) -> bool
+// An even count of floats, and at most 4,096 samples.
+pub fn trace_fine(floats: usize) -> bool
     ensures { λ r. ⌜ r ≡ traceFine floats ⌝ }
 {
     both(floats % 2 == 0, floats / 2 <= MOST)
@@ -48,7 +49,8 @@ pub fn edge_count(floats: usize) -> usize
     floats / 2 - 1
 }
 
-fn in_order(trace: bool, window: bool, room: bool) -> u8
+// The first of the three that does not hold gives its number.
+pub fn in_order(trace: bool, window: bool, room: bool) -> u8
     ensures { λ r. ⌜ r ≡ inOrder trace window room ⌝ }
 {
     if !trace {

@@ -1,11 +1,13 @@
 //! The stored list of `crates/answers`, asked of this crate: the lines that the Rust crate s2 gave, with W8's clamp and
-//! W10's rule of touches, and for the longest clean stretch those that a search over every run of samples gave.
+//! W10's rule of touches, for the longest clean stretch those that a search over every run of samples gave, and for
+//! the boxes of a trace and its first kept edge those that a search written apart from ours gave.
 
 mod words;
 
 use std::collections::BTreeSet;
 use std::path::{Path, PathBuf};
 use std::{array, fs};
+use umblacet::pages::{build_pages, first_kept, Search};
 use umblacet::r1::interval::Interval;
 use umblacet::r2::{point::Point, rect::Rect};
 use umblacet::s2::edge_clipping;
@@ -19,10 +21,14 @@ const WALK: u64 = 60;
 const TRACE: u64 = 61;
 const TRACE_WITH_TOUCHES: u64 = 62;
 const STRETCH: u64 = 63;
+const PAGES: u64 = 64;
+const SEARCH: u64 = 65;
 const RECORD: usize = 40;
 
 /// A request has room for so many of a trace.
 const FLOATS: usize = 16;
+/// And no request lends more for boxes.
+const BOXES: u64 = 75;
 
 #[test]
 fn every_line() {
@@ -117,6 +123,7 @@ fn line(request: &[u64; REQUEST]) -> String {
             lent(traced.map(|Counts { kept, missed, refused, edges }| [kept, missed, refused, edges]), &bytes)
         }
         STRETCH => lent(stretch(&mut a), &[]),
+        PAGES | SEARCH => pages(request),
         operation => answered(operation, &mut a).unwrap_or_else(|| "255".into()),
     }
 }
@@ -231,6 +238,37 @@ fn stretch(a: &mut Arguments) -> Result<[usize; 2], Refusal> {
     let part = longest_clean(samples, window)?;
     let bytes = part.as_ptr().addr() - samples.as_ptr().addr();
     Ok([bytes / 16, part.len() / 2])
+}
+
+/// The boxes built and then searched, or only searched. What fills them stands after all the floats that a request has
+/// room for.
+fn pages(request: &[u64; REQUEST]) -> String {
+    let mut a = arguments(request);
+    let (floats, length, window): (u64, u64, Rect) = (a.take(), a.take(), a.take());
+    let samples: [f64; FLOATS] = array::from_fn(|_| a.take());
+    let samples = &samples[..floats.min(FLOATS as u64) as usize];
+    let mut boxes = vec![a.take(); length.min(BOXES) as usize];
+    let before = boxes.clone();
+    let built = (request[0] == PAGES).then(|| build_pages(samples, &mut boxes));
+    let found = search_line(first_kept(samples, window, &boxes));
+    let Some(built) = built else { return found };
+    let written = built.unwrap_or(0);
+    assert!(same_bits(&boxes[written..], &before[written..]), "no float but the boxes' is written");
+    let floats = boxes.iter().flat_map(f64::words).map(|word| format!(" {word:016x}"));
+    format!("{} {found}{}", lent(built.map(|floats| [floats]), &[]), floats.collect::<String>())
+}
+
+/// Beside 1 the count of opened boxes stands too.
+fn search_line(found: Result<Search, Refusal>) -> String {
+    match found {
+        Ok(Search { edge: None, opened }) => format!("1 {:016x} {opened:016x}", 0),
+        Ok(Search { edge: Some(edge), opened }) => lent(Ok([edge, opened]), &[]),
+        Err(refusal) => lent::<2>(Err(refusal), &[]),
+    }
+}
+
+fn same_bits(one: &[f64], other: &[f64]) -> bool {
+    one.iter().map(|float| float.to_bits()).eq(other.iter().map(|float| float.to_bits()))
 }
 
 /// The record of an edge that was cut so.

@@ -1,4 +1,4 @@
--- `put_reply` stores a reply's line: the number, its groups, a line end.
+-- `put_reply` stores a reply's line: the number and its groups, a line end.
 use native.Mathlib.Omega.{arith}
 use lib.ListN.{length-set}
 use Rattle.answers.proofs.Run.{reply-stored}
@@ -9,51 +9,24 @@ use Rattle.answers.proofs.text.put_reply.Tie as tie
 at-most-eight-requires : tie.Need-at-most-eight-requires
 at-most-eight-requires c κs = search needs
 
-put-number-requires : tie.Need-put-number-requires
-put-number-requires c κs = omega arith
-
-put-groups-requires : tie.Need-put-groups-requires
-put-groups-requires c κs = (omega arith, omega arith)
-
-mul-out : tie.Need-mul-out
-mul-out c = omega arith
-
-add-out : tie.Need-add-out
-add-out c = omega arith
+put-numbered-requires : tie.Need-put-numbered-requires
+put-numbered-requires c κs = (omega arith, omega arith)
 
 slice-write-out : tie.Need-slice-write-out
 slice-write-out c = omega arith
 
-mul-result : tie.Need-mul-result
-mul-result c = omega arith
-
 add-result : tie.Need-add-result
 add-result c = omega arith
-
-add-result-2 : tie.Need-add-result-2
-add-result-2 c = omega arith
 
 same-length : tie.Need-same-length
 same-length c = simp length-set (omega arith)
 
 returns : tie.Need-returns
 returns c =
-    let n = c .before .before .before .before .before .before .put-number .ensures in
-    let e = reply-stored _ _ _ _ _ _ _ (c .before .before .before .before .before .before .before .before .at-most-eight .ensures .0) (n .0) (n .1) (c .before .before .put-groups .ensures) in
+    let n = c .before .before .put-numbered .ensures in
+    let e = reply-stored _ _ _ _ _ _ (c .before .before .before .before .at-most-eight .ensures .0) (n .0) (n .1) in
     (e .0, e .1, omega arith)
 
 pub put-reply-spec : {M : Type 1} → statement M
 put-reply-spec =
-    tie.close
-    (tie.spec
-    at-most-eight-requires
-    put-number-requires
-    put-groups-requires
-    mul-out
-    add-out
-    slice-write-out
-    mul-result
-    add-result
-    add-result-2
-    same-length
-    returns)
+    tie.close (tie.spec at-most-eight-requires put-numbered-requires slice-write-out add-result same-length returns)

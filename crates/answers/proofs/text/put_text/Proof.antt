@@ -12,7 +12,7 @@ use Rattle.answers.proofs.text.put_text.Statement.{statement}
 use Rattle.answers.proofs.text.put_text.Tie as tie
 
 abbrev Inv-loop : tie.InvT-loop
-Inv-loop s out₀ n i₀ to₀ out i to = Writing 192 lineOf tornLine 873 s out₀ n out i to
+Inv-loop s out₀ n i₀ to₀ out i to = Writing 192 lineOf tornLine 1334 s out₀ n out i to
 
 abbrev μ-loop : tie.MeasureT-loop
 μ-loop s out₀ n i₀ to₀ out i to = n - i

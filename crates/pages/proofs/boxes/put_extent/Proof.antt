@@ -1,0 +1,88 @@
+-- `put_extent` stores five floats.
+use Prim.Native.Nat.{_*_}
+use native.Mathlib.Omega.{arith}
+use lib.ListN.{length-set}
+use Rattle.pages.proofs.Storing.{five-stores}
+use borrow.Author.Needs.{needs}
+use Rattle.pages.proofs.boxes.put_extent.Statement.{statement}
+use Rattle.pages.proofs.boxes.put_extent.Tie as tie
+
+mul-at : tie.Need-mul-at
+mul-at c = search needs
+
+mul-boxes : tie.Need-mul-boxes
+mul-boxes c = search needs
+
+slice-write-boxes : tie.Need-slice-write-boxes
+slice-write-boxes c = search needs
+
+add-boxes : tie.Need-add-boxes
+add-boxes c = search needs
+
+mul-boxes-2 : tie.Need-mul-boxes-2
+mul-boxes-2 c = search needs
+
+slice-write-boxes-2 : tie.Need-slice-write-boxes-2
+slice-write-boxes-2 c = simp length-set (omega arith)
+
+add-boxes-2 : tie.Need-add-boxes-2
+add-boxes-2 c = search needs
+
+mul-boxes-3 : tie.Need-mul-boxes-3
+mul-boxes-3 c = search needs
+
+slice-write-boxes-3 : tie.Need-slice-write-boxes-3
+slice-write-boxes-3 c = simp length-set (omega arith)
+
+add-boxes-3 : tie.Need-add-boxes-3
+add-boxes-3 c = search needs
+
+mul-boxes-4 : tie.Need-mul-boxes-4
+mul-boxes-4 c = search needs
+
+slice-write-boxes-4 : tie.Need-slice-write-boxes-4
+slice-write-boxes-4 c = simp length-set (omega arith)
+
+mark-requires : tie.Need-mark-requires
+mark-requires c κs = search needs
+
+add-boxes-4 : tie.Need-add-boxes-4
+add-boxes-4 c = search needs
+
+mul-boxes-5 : tie.Need-mul-boxes-5
+mul-boxes-5 c = search needs
+
+slice-write-boxes-5 : tie.Need-slice-write-boxes-5
+slice-write-boxes-5 c = simp length-set (omega arith)
+
+same-length : tie.Need-same-length
+same-length c = search needs
+
+returns : tie.Need-returns
+returns c =
+    let a = c .before .before .args in
+    let r = a .e .rect in
+    five-stores (a .boxes .now) (5 * a .place) (r .x .lo) (r .y .lo) (r .x .hi) (r .y .hi) _ _ (c .mark .ensures)
+
+pub put-extent-spec : {M : Type 1} → statement M
+put-extent-spec =
+    tie.close
+    (tie.spec
+    mul-at
+    mul-boxes
+    slice-write-boxes
+    add-boxes
+    mul-boxes-2
+    slice-write-boxes-2
+    add-boxes-2
+    mul-boxes-3
+    slice-write-boxes-3
+    add-boxes-3
+    mul-boxes-4
+    slice-write-boxes-4
+    mark-requires
+    add-boxes-4
+    mul-boxes-5
+    slice-write-boxes-5
+    same-length
+    returns)

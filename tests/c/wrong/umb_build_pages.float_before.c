@@ -1,0 +1,9 @@
+/* Writes the float before what it is lent. */
+#include "wrapped.h"
+
+umb_pages_answer __wrap_umb_build_pages(const double *samples, size_t samples_length, double *boxes,
+                                        size_t boxes_length)
+{
+    boxes[-1] = 0;
+    return __real_umb_build_pages(samples, samples_length, boxes, boxes_length);
+}

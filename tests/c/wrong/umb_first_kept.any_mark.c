@@ -1,0 +1,19 @@
+/* Takes any mark but 0. */
+#include "halves.h"
+#include "wrapped.h"
+
+static bool opens_by_any(const double *box, umb_rect window)
+{
+    const bool marked = box[4] < 0 || box[4] > 0;
+    const double taken[BOX] = {box[0], box[1], box[2], box[3], marked ? 1 : 0};
+    return opens(taken, window);
+}
+
+umb_kept_answer __wrap_umb_first_kept(const double *samples, size_t samples_length, umb_rect window,
+                                      const double *boxes, size_t boxes_length)
+{
+    const umb_kept_answer right = __real_umb_first_kept(samples, samples_length, window, boxes, boxes_length);
+    search_rules by = right_search();
+    by.opens = opens_by_any;
+    return search_by(&by, right, samples, samples_length, window, boxes);
+}

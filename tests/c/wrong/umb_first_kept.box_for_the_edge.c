@@ -1,0 +1,18 @@
+/* Takes a single edge for kept where its box opens. */
+#include "halves.h"
+#include "wrapped.h"
+
+static bool keeps_all(const double *edge, umb_rect window)
+{
+    (void)edge, (void)window;
+    return true;
+}
+
+umb_kept_answer __wrap_umb_first_kept(const double *samples, size_t samples_length, umb_rect window,
+                                      const double *boxes, size_t boxes_length)
+{
+    const umb_kept_answer right = __real_umb_first_kept(samples, samples_length, window, boxes, boxes_length);
+    search_rules by = right_search();
+    by.keeps = keeps_all;
+    return search_by(&by, right, samples, samples_length, window, boxes);
+}

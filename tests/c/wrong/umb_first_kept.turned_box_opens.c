@@ -1,0 +1,22 @@
+/* Takes a box whose low end is above its high one for one that shares a point. */
+#include "halves.h"
+#include "wrapped.h"
+
+static bool meet(umb_interval w, double lo, double hi)
+{
+    return w.lo <= hi && lo <= w.hi;
+}
+
+static bool opens_turned(const double *box, umb_rect window)
+{
+    return box[4] == 1 && meet(window.x, box[0], box[2]) && meet(window.y, box[1], box[3]);
+}
+
+umb_kept_answer __wrap_umb_first_kept(const double *samples, size_t samples_length, umb_rect window,
+                                      const double *boxes, size_t boxes_length)
+{
+    const umb_kept_answer right = __real_umb_first_kept(samples, samples_length, window, boxes, boxes_length);
+    search_rules by = right_search();
+    by.opens = opens_turned;
+    return search_by(&by, right, samples, samples_length, window, boxes);
+}
