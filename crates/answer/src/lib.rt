@@ -1,4 +1,6 @@
 // The numbers given back, and the answers of one value beside a number.
+#![tactic(auto)]
+
 ghost use Rattle.std.specs.Prelude.{◌≡◌};
 ghost use Rattle.float.specs.Choice.{◌and◌};
 ghost use Rattle.answer.specs.Answer.{real_answer, yes_no_answer, need_finite};
@@ -28,7 +30,7 @@ pub const BAD_TRACE: u8 = 10;
 
 // A float beside the number 0, or zero beside another.
 #[repr(C)]
-#[derive(Drop)]
+#[derive(Clone, Copy)]
 pub struct Real {
     pub number: u8,
     pub value: f64,
@@ -36,7 +38,7 @@ pub struct Real {
 
 // Yes or no beside the number 0, or no beside another.
 #[repr(C)]
-#[derive(Drop)]
+#[derive(Clone, Copy)]
 pub struct YesNo {
     pub number: u8,
     pub yes: bool,

@@ -1,4 +1,6 @@
 // Answers the requests on standard input, 192 bytes each, and writes a line for each.
+#![tactic(auto)]
+
 mod axes;
 mod cuts;
 mod faces;

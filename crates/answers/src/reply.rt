@@ -10,7 +10,7 @@ use plane::{Corners, IntervalAnswer, Point, PointAnswer, RectAnswer};
 use stretch::StretchAnswer;
 
 // The first count of the words are the reply's; none beside a number that is not 0.
-#[derive(Drop)]
+#[derive(Clone, Copy)]
 pub struct Reply {
     pub number: u8,
     pub count: usize,

@@ -1,5 +1,7 @@
 // Words in lent bytes: little-endian out of them, as hex digits into them. What does not fit whole
 // is not written at all.
+#![tactic(auto)]
+
 ghost use Rattle.std.specs.Prelude.{◌≡◌, ◌%◌, ◌<◌};
 ghost use Rattle.buffer.specs.Bytes.{word_at, bytes_of, placed};
 ghost use Rattle.buffer.specs.Digits.{digit_of, group};

@@ -6,7 +6,7 @@ ghost use Rattle.clip.specs.Turns.{axis_with, axis_x, axis_y, a_nearer, own_line
 use plane::{Interval, Point, Rect};
 
 // An interval with one end moved, or nothing is left of it.
-#[derive(Drop)]
+#[derive(Clone, Copy)]
 pub enum Moved {
     To(Interval),
     Lost,
@@ -14,19 +14,19 @@ pub enum Moved {
 
 // The bounds of an axis and of the other.
 #[repr(C)]
-#[derive(Drop)]
+#[derive(Clone, Copy)]
 pub struct Both {
     pub this: Interval,
     pub other: Interval,
 }
 
-#[derive(Drop)]
+#[derive(Clone, Copy)]
 pub enum AxisCut {
     Left(Both),
     Gone,
 }
 
-#[derive(Drop)]
+#[derive(Clone, Copy)]
 pub enum BoxCut {
     Inside(Rect),
     Outside,
@@ -38,7 +38,7 @@ pub const BOTH_AXES: u8 = 4;
 const ONE_AXIS: u8 = 2;
 
 // An axis as the cut sees it: the ends of the line along it, what is left of the bound, and the window.
-#[derive(Drop)]
+#[derive(Clone, Copy)]
 pub struct Axis {
     pub a: f64,
     pub b: f64,

@@ -11,7 +11,7 @@ use answer::BAD_FACE;
 
 // A point of a face.
 #[repr(C)]
-#[derive(Drop)]
+#[derive(Clone, Copy)]
 pub struct Uv {
     pub u: f64,
     pub v: f64,

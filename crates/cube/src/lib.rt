@@ -4,6 +4,8 @@
 // functions here are the entries: each answers the number of what is refused, in document 01's order
 // (4, 2, 5, then 1), and beside it what `compute` gives, which takes any float and refuses 4 alone.
 // Beside a number that is not 0 stand zeros.
+#![tactic(auto)]
+
 pub mod compute;
 pub mod refuse;
 pub mod vector;
@@ -19,7 +21,7 @@ pub use vector::Vector;
 
 // A face beside 0, or face 0 beside a refusal.
 #[repr(C)]
-#[derive(Drop)]
+#[derive(Clone, Copy)]
 pub struct FaceAnswer {
     pub number: u8,
     pub face: u8,
@@ -27,7 +29,7 @@ pub struct FaceAnswer {
 
 // A face and (u, v) on it beside 0, or face 0 and zeros beside a refusal.
 #[repr(C)]
-#[derive(Drop)]
+#[derive(Clone, Copy)]
 pub struct FaceUv {
     pub number: u8,
     pub face: u8,
@@ -37,7 +39,7 @@ pub struct FaceUv {
 
 // (u, v) beside 0, or zeros beside a refusal.
 #[repr(C)]
-#[derive(Drop)]
+#[derive(Clone, Copy)]
 pub struct UvAnswer {
     pub number: u8,
     pub u: f64,
@@ -46,7 +48,7 @@ pub struct UvAnswer {
 
 // A vector beside 0, or the zero vector beside a refusal.
 #[repr(C)]
-#[derive(Drop)]
+#[derive(Clone, Copy)]
 pub struct VectorAnswer {
     pub number: u8,
     pub vector: Vector,

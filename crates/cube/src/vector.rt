@@ -5,7 +5,7 @@ ghost use Rattle.cube.specs.Vector.{vec, finite_vector, is_zero};
 use answer::both;
 
 #[repr(C)]
-#[derive(Drop)]
+#[derive(Clone, Copy)]
 pub struct Vector {
     pub x: f64,
     pub y: f64,

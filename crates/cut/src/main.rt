@@ -1,4 +1,6 @@
 // Cuts the edges on standard input, 64-byte records, and writes a line for each.
+#![tactic(auto)]
+
 mod lines;
 
 use libc::{STDIN_FILENO, STDOUT_FILENO};

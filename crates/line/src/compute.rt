@@ -7,7 +7,7 @@ use cube::Vector;
 use cube::compute::Uv;
 
 // The axis over which a line leaves a face.
-#[derive(Drop)]
+#[derive(Clone, Copy)]
 pub enum Axis {
     U,
     V,

@@ -4,6 +4,8 @@
 // are the entries: each answers the number of what is refused, in document 01's order (4, 2, 5), and
 // beside it what `compute` gives, which takes any float and refuses nothing. Beside a number that is
 // not 0 stand zeros, no, the axis U and face 0.
+#![tactic(auto)]
+
 pub mod compute;
 pub mod refuse;
 
@@ -17,7 +19,7 @@ use cube::compute::Uv;
 use cube::{FaceAnswer, UvAnswer, Vector};
 
 // An axis beside 0, or U beside a refusal.
-#[derive(Drop)]
+#[derive(Clone, Copy)]
 pub struct AxisAnswer {
     pub number: u8,
     pub axis: Axis,

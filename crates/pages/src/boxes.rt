@@ -14,7 +14,7 @@ use clip::refuse::point_fine;
 use plane::{Point, Rect};
 
 // The box of the live edges among some, and whether there is one; the empty rectangle where there is none.
-#[derive(Drop)]
+#[derive(Clone, Copy)]
 pub(crate) struct Extent {
     rect: Rect,
     live: bool,

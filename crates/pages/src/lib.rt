@@ -5,6 +5,8 @@
 // `build_pages` and `first_kept` are the entries: each answers the number of what is refused (10, then 3 for
 // a window, then 8), and `first_kept` 1 where no edge is kept. Both go down the halves by calling themselves,
 // at most 13 deep for 4,096 samples.
+#![tactic(auto)]
+
 mod boxes;
 mod search;
 
@@ -21,7 +23,7 @@ const FLOATS: usize = 5;
 
 // How many floats were written; 0 beside a number that is not 0.
 #[repr(C)]
-#[derive(Drop)]
+#[derive(Clone, Copy)]
 pub struct PagesAnswer {
     pub number: u8,
     pub floats: usize,
@@ -29,7 +31,7 @@ pub struct PagesAnswer {
 
 // The edge beside 0, and 0 beside another number; how many boxes were opened, beside 0 and 1.
 #[repr(C)]
-#[derive(Drop)]
+#[derive(Clone, Copy)]
 pub struct KeptAnswer {
     pub number: u8,
     pub edge: usize,

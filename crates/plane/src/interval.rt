@@ -7,7 +7,7 @@ ghost use Rattle.plane.specs.Entries.{is_empty_or_refusal, holds_or_refusal, con
 use answer::{DONE, YesNo, both, need_finite};
 
 #[repr(C)]
-#[derive(Drop)]
+#[derive(Clone, Copy)]
 pub struct Interval {
     pub lo: f64,
     pub hi: f64,
@@ -15,7 +15,7 @@ pub struct Interval {
 
 // An interval beside 0, or 0..0 beside a refusal.
 #[repr(C)]
-#[derive(Drop)]
+#[derive(Clone, Copy)]
 pub struct IntervalAnswer {
     pub number: u8,
     pub interval: Interval,

@@ -7,7 +7,7 @@ ghost use Rattle.plane.specs.Entries.{new_or_refusal, ortho_or_refusal, dot_or_r
 use answer::{DONE, Real, both, need_finite};
 
 #[repr(C)]
-#[derive(Drop)]
+#[derive(Clone, Copy)]
 pub struct Point {
     pub x: f64,
     pub y: f64,
@@ -15,7 +15,7 @@ pub struct Point {
 
 // A point beside 0, or the origin beside a refusal.
 #[repr(C)]
-#[derive(Drop)]
+#[derive(Clone, Copy)]
 pub struct PointAnswer {
     pub number: u8,
     pub point: Point,

@@ -9,7 +9,7 @@ use crate::point::{Point, PointAnswer};
 use answer::{DONE, YesNo, both, need_finite};
 
 #[repr(C)]
-#[derive(Drop)]
+#[derive(Clone, Copy)]
 pub struct Rect {
     pub x: Interval,
     pub y: Interval,
@@ -17,7 +17,7 @@ pub struct Rect {
 
 // A rectangle beside 0, or 0..0 on both axes beside a refusal.
 #[repr(C)]
-#[derive(Drop)]
+#[derive(Clone, Copy)]
 pub struct RectAnswer {
     pub number: u8,
     pub rect: Rect,
@@ -25,7 +25,7 @@ pub struct RectAnswer {
 
 // Four corners beside 0, or four origins beside a refusal.
 #[repr(C)]
-#[derive(Drop)]
+#[derive(Clone, Copy)]
 pub struct Corners {
     pub number: u8,
     pub vertices: [Point; 4],

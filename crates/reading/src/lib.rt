@@ -1,4 +1,6 @@
 // The window and the samples out of bytes: floats as their bits, little-endian.
+#![tactic(auto)]
+
 ghost use Rattle.std.specs.Prelude.{◌≡◌, ◌+◌, ◌≤◌, leb, length};
 ghost use Rattle.float.specs.Choice.{when◌then◌else◌};
 ghost use Rattle.reading.specs.Samples.{float_at, window_of, floats_in, floats_from, floats_into};

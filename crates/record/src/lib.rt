@@ -1,5 +1,7 @@
 // The 40-byte record: byte 0 a face or a number, bytes 1 to 3 zero, bytes 4 to 7 the trace number, whose
 // it is, then four floats' bits, all little-endian.
+#![tactic(auto)]
+
 ghost use Rattle.std.specs.Prelude.{◌≡◌};
 ghost use Rattle.buffer.specs.Bytes.{placed};
 ghost use Rattle.record.specs.Inner.{head_of, with_head};

@@ -4,6 +4,8 @@
 //
 // One sample more is read than a trace may have. With it the trace is refused, whatever follows, so the rest
 // of the input is not looked at.
+#![tactic(auto)]
+
 mod find;
 mod line;
 

@@ -5,6 +5,8 @@
 // The input is worked through in pieces of up to 4,096 samples, each but the first beginning with the
 // last sample of the piece before it. By the join law their records, one after the other, are those of
 // the whole trace, and their counts add up to its counts: specs/Promises.antt, `whole`.
+#![tactic(auto)]
+
 mod piece;
 mod words;
 
@@ -18,7 +20,7 @@ use trace::TraceAnswer;
 use words::{Asked, Word};
 
 // Of the edges whose records were written.
-#[derive(Drop)]
+#[derive(Clone, Copy)]
 struct Counts {
     kept: u64,
     missed: u64,
@@ -27,7 +29,7 @@ struct Counts {
 
 // After some pieces: whether there is a sample to carry over, and which; the counts; how the run goes; and
 // how many bytes the last piece has after its whole samples.
-#[derive(Drop)]
+#[derive(Clone, Copy)]
 struct Progress {
     carried: bool,
     last: Point,

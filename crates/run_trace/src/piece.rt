@@ -8,7 +8,7 @@ ghost use Rattle.run_trace.specs.Pieces.{piece_floats, last_after, bytes_for, wr
 use plane::{Point, Rect};
 use trace::TraceAnswer;
 
-#[derive(Drop)]
+#[derive(Clone, Copy)]
 pub struct Piece {
     pub answer: TraceAnswer,
     pub last: Point,

@@ -3,7 +3,7 @@ ghost use Rattle.std.specs.Prelude.{◌≡◌};
 ghost use Rattle.run_trace.specs.Words.{number_in, same, word_of, of_one, number_and, touches_and, of_two};
 
 // What a word is.
-#[derive(Drop)]
+#[derive(Clone, Copy)]
 pub enum Word {
     // A trace number.
     Number(u32),
@@ -13,7 +13,7 @@ pub enum Word {
 }
 
 // What the words ask for.
-#[derive(Drop)]
+#[derive(Clone, Copy)]
 pub enum Asked {
     // The records of this trace, with the edges that only touch the window or without them.
     Records(u32, bool),

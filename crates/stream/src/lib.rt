@@ -2,6 +2,8 @@
 // end of the input, and what was taken from what was not.
 //
 // No contract can say which bytes were read or written; what follows from the counts is under one.
+#![tactic(auto)]
+
 ghost use Rattle.std.specs.Prelude.{◌≡◌, ◌<◌, ◌≤◌};
 ghost use Rattle.io.specs.Counts.{IsPrefixLen};
 ghost use Rattle.buffer.specs.Text.{line_ends};
@@ -16,7 +18,7 @@ const STATUS_FILENO: i32 = 3;
 
 // How many bytes were read, and whether a failure ended the reading. Where none did and there was room
 // for more, the input has ended.
-#[derive(Drop)]
+#[derive(Clone, Copy)]
 pub struct Got {
     pub bytes: usize,
     pub failed: bool,
@@ -107,7 +109,7 @@ fn lines(text: &[u8]) -> usize
 // ---- how a run goes and ends
 
 // The records that were written whole, what failed, and whether there may be more to read.
-#[derive(Drop)]
+#[derive(Clone, Copy)]
 pub struct Run {
     pub records: u64,
     pub unread: bool,

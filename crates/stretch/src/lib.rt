@@ -3,6 +3,8 @@
 //
 // `longest_clean` hands back that part of the caller's own samples, and `longest_clean_number` the number
 // (10, then 3, or 0); `longest_clean_run` says the same in figures, for callers that want no slice.
+#![tactic(auto)]
+
 ghost use Rattle.std.specs.Prelude.{◌≡◌, true, length};
 ghost use Rattle.plane.specs.Point.{at};
 ghost use Rattle.clip.specs.Refuse.{window_fine};
@@ -15,7 +17,7 @@ use plane::Rect;
 
 // So many samples from a sample on, the first being 0. Zeros beside a number that is not 0.
 #[repr(C)]
-#[derive(Drop)]
+#[derive(Clone, Copy)]
 pub struct StretchAnswer {
     pub number: u8,
     pub first: usize,
@@ -65,7 +67,7 @@ pub fn longest_clean_run(samples: &[f64], window: Rect) -> StretchAnswer
 // ---- one pass over the samples
 
 // So many floats from a place on.
-#[derive(Drop)]
+#[derive(Clone, Copy)]
 struct Part {
     from: usize,
     length: usize,

@@ -9,7 +9,7 @@ use plane::{Interval, IntervalAnswer, Point, Rect, RectAnswer};
 
 // The kept points of an edge beside 0, or zeros beside the miss or a refusal.
 #[repr(C)]
-#[derive(Drop)]
+#[derive(Clone, Copy)]
 pub struct Cut {
     pub number: u8,
     pub a: Point,

@@ -1,5 +1,7 @@
 // The functions for C and Rust, as `include/umblacet.h` declares them: each is an entry of document 01 under the name
 // that C calls it by, with the entry's contract.
+#![tactic(auto)]
+
 pub mod boxes;
 pub mod cuts;
 pub mod faces;

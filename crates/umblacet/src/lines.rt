@@ -11,7 +11,7 @@ use line::{AxisAnswer, compute};
 
 // An axis as a number, 0 for U and 1 for V, beside 0; or U beside a refusal.
 #[repr(C)]
-#[derive(Drop)]
+#[derive(Clone, Copy)]
 pub struct NumberedAxis {
     pub number: u8,
     pub axis: u8,

@@ -8,14 +8,14 @@ use cube::compute::Uv;
 
 // The count of segments beside 0, or 0 beside another number.
 #[repr(C)]
-#[derive(Drop)]
+#[derive(Clone, Copy)]
 pub struct WalkAnswer {
     pub number: u8,
     pub count: usize,
 }
 
 // Where the line leaves a face, and the face where it goes on.
-#[derive(Drop)]
+#[derive(Clone, Copy)]
 pub struct Crossing {
     pub exit: Uv,
     pub next: u8,

@@ -3,6 +3,8 @@
 // `walk` is the entry: it answers the number of what is refused, in document 01's order (4, 2, 5,
 // then 6 or 7 as the walk finds them, then 8), and beside 0 the count of its segments, whose records
 // it writes. `compute` has a step of the walk, for any normal and any point, and refuses nothing.
+#![tactic(auto)]
+
 pub mod compute;
 pub mod refuse;
 
