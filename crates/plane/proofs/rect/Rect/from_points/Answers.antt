@@ -1,0 +1,6 @@
+-- `Rect::from_points` is `boxOf`: axis by axis, from what its calls give.
+use borrow.Author.Rules.{rules}
+use Rattle.plane.proofs.rect.Rect.from_points.Goals as goal
+
+pub returns : goal.returns
+returns c = rw (c.from_point_pair-2.ensures, c.from_point_pair.ensures)

@@ -1,0 +1,6 @@
+-- `Rect::intersection` is `intersectionRect`: axis by axis, from what its calls give.
+use borrow.Author.Rules.{rules}
+use Rattle.plane.proofs.rect.Rect.intersection.Goals as goal
+
+pub returns : goal.returns
+returns c = rw (c.intersection-2.ensures, c.intersection.ensures) at c.or_empty.ensures

@@ -1,0 +1,6 @@
+-- `Rect::union` is `unionRect`: axis by axis, from what its calls give.
+use borrow.Author.Rules.{rules}
+use Rattle.plane.proofs.rect.Rect.union.Goals as goal
+
+pub returns : goal.returns
+returns c = rw (c.union-2.ensures, c.union.ensures)

@@ -1,0 +1,6 @@
+-- `Rect::vertex` is `cornerOf`: axis by axis, from what its calls give.
+use borrow.Author.Rules.{rules}
+use Rattle.plane.proofs.rect.Rect.vertex.Goals as goal
+
+pub returns : goal.returns
+returns c = rw (c.at_end-2.ensures, c.at_end.ensures)
