@@ -1,11 +1,11 @@
 -- Why the early answers are right: by the promises on a first box inside the window, and on one that shares no point with it.
 use mathlib.Core.Path.{◌≡◌, refl, sym, subst, ◌∙◌}
 use mathlib.Core.Bool.{Bool, true, false, ◌&&◌, ◌||◌, true≢false, false≢true}
-use lib.Ieee.{Float, lt}
+use lib.Ieee.{Float}
 use Rattle.float.proofs.Order.{le_lt_trans, lt_le_trans, lt_not_le}
 use Rattle.plane.specs.Interval.{between}
 use Rattle.plane.specs.Rect.{box_of}
-use Rattle.plane.specs.Within.{In, Part, Share, PartRect, ShareRect}
+use Rattle.plane.specs.Within.{Part, Share, PartRect}
 use Rattle.plane.specs.declared.point.Point.{Point}
 use Rattle.plane.specs.declared.interval.Interval.{Interval}
 use Rattle.plane.specs.declared.rect.Rect.{Rect}

@@ -2,8 +2,7 @@
 use mathlib.Core.Path.{◌≡◌, refl, sym, ◌∙◌}
 use mathlib.Core.Logic.{◌⊎◌, inl, inr}
 use mathlib.Core.Bool.{Bool, true, false, not, true≢false}
-use lib.IntN.{pos}
-use lib.Ieee.{Float, fin, binary64, le, is_nan, of_bits}
+use lib.Ieee.{Float, binary64, le, is_nan, of_bits}
 use Rattle.float.specs.Choice.{when◌then◌else◌}
 use Rattle.float.specs.Float.{◌⊖◌, ◌⊗◌, zero_f}
 use Rattle.float.proofs.Choice.{and_parts}
@@ -39,11 +38,11 @@ module _ (k c x y : Float) (h : le x y ≡ true) (p : Num (k ⊗ (x ⊖ c))) (q 
 module _ (i : Interval) (s : Some i) (e : Bool) where
   under_high : le (end_of i e) (end_of i true) ≡ true
   unfolding end_of when◌then◌else◌
-  under_high = elim e [ true ↦ le_refl _ (le_num _ _ s).1 | false ↦ s ]
+  under_high = elim e as (λ k. le (end_of i k) (end_of i true) ≡ true) [ true ↦ le_refl _ (le_num _ _ s).1 | false ↦ s ]
 
   over_low : le (end_of i false) (end_of i e) ≡ true
   unfolding end_of when◌then◌else◌
-  over_low = elim e [ true ↦ s | false ↦ le_refl _ (le_num _ _ s).0 ]
+  over_low = elim e as (λ k. le (end_of i false) (end_of i k) ≡ true) [ true ↦ s | false ↦ le_refl _ (le_num _ _ s).0 ]
 
 -- the place of an end, along the axis alone
 along : Float → Float → Interval → Bool → Float

@@ -13,7 +13,7 @@ use Rattle.float.proofs.Whole.{le_or_lt}
 use Rattle.float.proofs.Signed.{turned, plus, times}
 use Rattle.float.proofs.Unlike.{unlike_swap, unlike_not}
 use Rattle.float.proofs.Sizes.{size_is}
-use Rattle.float.proofs.Less.{parts, pos_less, neg_less, of_one, of_two, less_same, less_neg, less_plus, less_times, less_size, less_le}
+use Rattle.float.proofs.Less.{◌less◌, parts, pos_less, neg_less, of_one, of_two, less_same, less_neg, less_plus, less_times, less_size, less_le}
 use Rattle.float.proofs.Apart.{size_neg, minus_via, minus_swap}
 
 -- the line through (a, a1) and (b, b1) at x, times b - a
@@ -97,7 +97,7 @@ module _ (x a b : ℤ) (g : Bool) (p r : ℕ) (from : x -ℤ a ≡ signed g p) (
 grows : (e : ℤ) (g : Bool) (m n : ℕ) → (nat_abs e ≤ nat_abs (e +ℤ signed g m)) ⊎ (nat_abs (neg_ℤ e) ≤ nat_abs (neg_ℤ e +ℤ signed g n))
 grows e g m n =
     of_one (λ e. (nat_abs e ≤ nat_abs (e +ℤ signed g m)) ⊎ (nat_abs (neg_ℤ e) ≤ nat_abs (neg_ℤ e +ℤ signed g n)))
-    (λ e1 e0. rw less_neg (elim g [
+    (λ e1 e0. rw less_neg (elim g as (λ g. (nat_abs (e1 less e0) ≤ nat_abs ((e1 less e0) +ℤ signed g m)) ⊎ (nat_abs (e0 less e1) ≤ nat_abs ((e0 less e1) +ℤ signed g n))) [
       | false ↦ elim (le_or_lt e0 e1) [ inl h ↦ inl (rw (pos_less m) (simp (less_plus, less_size) (omega arith))) | inr h ↦ inr (rw (pos_less n) (simp (less_plus, less_size) (omega arith))) ]
       | true ↦ elim (le_or_lt e0 e1) [ inl h ↦ inr (rw (neg_less n) (simp (less_plus, less_size) (omega arith))) | inr h ↦ inl (rw (neg_less m) (simp (less_plus, less_size) (omega arith))) ]
     ])) e

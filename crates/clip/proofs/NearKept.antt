@@ -75,7 +75,7 @@ same_point p q e d = ap (λ (x : Float). at x p.y) e ∙ ap (at q.x) d
 
 own_end_lem : (a b : Float) (c : Bool) → Value binary64 a → Value binary64 b → Value binary64 (end_of (between a b) c)
 unfolding end_of when◌then◌else◌
-own_end_lem a b c p q = let (l, h) = between_ends (Value binary64) a b p q in elim c [ true ↦ h | false ↦ l ]
+own_end_lem a b c p q = let (l, h) = between_ends (Value binary64) a b p q in elim c as (λ k. Value binary64 (end_of (between a b) k)) [ true ↦ h | false ↦ l ]
 
 -- ---- the edge from a to b, and its own end at the ends cx and cy of its box
 module _ (k : ℕ) (a b : Point) (w : Rect) (X : (d : Bool) → Fit (end_of w.x d) a.x b.x a.y b.y) (Y : (d : Bool) → Fit (end_of w.y d) a.y b.y a.x b.x)

@@ -58,7 +58,7 @@ fit x a b a1 b1 = record { at_x = x; at_a = a; at_b = b; height_a = a1; height_b
 
 small_end : (i : Interval) → fits binary64 i.lo ≡ true → fits binary64 i.hi ≡ true → sides_fine i ≡ true → (d : Bool) → Small (end_of i d)
 unfolding sides_fine end_of when◌then◌else◌
-small_end i l h f d = let (p, q) = and_parts _ _ (and_parts _ _ f).0 in elim d [ true ↦ small_side h q | false ↦ small_side l p ]
+small_end i l h f d = let (p, q) = and_parts _ _ (and_parts _ _ f).0 in elim d as (λ k. Small (end_of i k)) [ true ↦ small_side h q | false ↦ small_side l p ]
 
 pub fine_some : (i : Interval) → sides_fine i ≡ true → Some i
 unfolding sides_fine

@@ -10,15 +10,10 @@ use Rattle.plane.specs.Answers.{rect_answer}
 use Rattle.plane.specs.Within.{InRect, Some, SomeRect, PartRect, EndsRect, ShareRect}
 use Rattle.plane.specs.declared.point.Point.{Point}
 use Rattle.plane.specs.declared.interval.Interval.{Interval}
-use Rattle.plane.specs.declared.interval.IntervalAnswer.{IntervalAnswer}
 use Rattle.plane.specs.declared.rect.Rect.{Rect}
-use Rattle.plane.specs.declared.rect.RectAnswer.{RectAnswer}
-use Rattle.answer.specs.declared.Real.{Real}
-use Rattle.answer.specs.declared.YesNo.{YesNo}
 use Rattle.clip.specs.declared.compute.Moved.TheVariants.{Lost}
 use Rattle.clip.specs.declared.compute.AxisCut.TheVariants.{Gone}
 use Rattle.clip.specs.declared.compute.BoxCut.TheVariants.{Outside}
-use Rattle.clip.specs.declared.AxesAnswer.{AxesAnswer}
 use Rattle.clip.specs.declared.Segment.{Segment}
 use Rattle.clip.specs.declared.Clipped.TheVariants.{Kept}
 use Rattle.clip.specs.Cut.{moved_end, axis_cut, box_cut, off_line, farthest, nearest, edge_meets}

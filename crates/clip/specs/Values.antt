@@ -6,7 +6,6 @@ use Rattle.std.specs.Float.Ieee.{eq, fits, is_nan, of_bits}
 use Rattle.float.specs.Choice.{when◌then◌else◌, ◌and◌}
 use Rattle.float.specs.Float.{zero_f, one_f, finite}
 use Rattle.answer.specs.Answer.{done, missed}
-use Rattle.answer.specs.declared.Real.{Real}
 use Rattle.plane.specs.Point.{difference_of, ortho_of}
 use Rattle.plane.specs.Interval.{from◌to◌, holds, between, end_of}
 use Rattle.plane.specs.Rect.{box_of}
@@ -15,7 +14,6 @@ use Rattle.plane.specs.Within.{In, Part, PartRect}
 use Rattle.plane.specs.declared.point.Point.{Point}
 use Rattle.plane.specs.declared.interval.Interval.{Interval}
 use Rattle.plane.specs.declared.rect.Rect.{Rect}
-use Rattle.clip.specs.declared.compute.Both.{Both}
 use Rattle.clip.specs.declared.compute.AxisCut.{AxisCut}
 use Rattle.clip.specs.declared.compute.AxisCut.TheVariants.{Left, Gone}
 use Rattle.clip.specs.Cut.{negative_slope, value_at, inward, side_cut, axis_cut, box_cut, off_line}

@@ -7,7 +7,7 @@ use native.Mathlib.Omega.{arith}
 use lib.Pow.{pow_pos}
 use lib.IntN.{◌-ℤ◌}
 use lib.Dec.{T}
-use lib.Ieee.{Float, Format, low, sub, fits, of_bits, to_bits}
+use lib.Ieee.{Float, Format, low, sub, fits, of_bits}
 use lib.Ieee.Bits.{of_bits-fits, of_bits-to_bits}
 use lib.Ieee.Scale.{overflow}
 use Rattle.float.specs.Float.{finite, sign_bit}

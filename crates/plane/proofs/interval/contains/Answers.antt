@@ -1,5 +1,4 @@
 -- The entry `interval::contains`: the method of that name, beside the number of what is refused.
-use borrow.Author.Rules.{rules}
 use Rattle.plane.proofs.interval.contains.Goals as goal
 
 pub returns : goal.returns

@@ -1,6 +1,5 @@
 -- The entry `interval::from_point_pair`.
 use Rattle.plane.specs.Interval.{finite_interval}
-use borrow.Author.Rules.{rules}
 use Rattle.plane.proofs.interval.from_point_pair.Goals as goal
 
 pub returns : goal.returns

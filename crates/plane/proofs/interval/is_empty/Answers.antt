@@ -1,5 +1,4 @@
 -- The entry `interval::is_empty`: the method of that name, beside the number of what is refused.
-use borrow.Author.Rules.{rules}
 use Rattle.plane.proofs.interval.is_empty.Goals as goal
 
 pub returns : goal.returns

@@ -1,5 +1,4 @@
 -- The entry `point::cross`: the method of that name, beside the number of what is refused.
-use borrow.Author.Rules.{rules}
 use Rattle.plane.proofs.point.cross.Goals as goal
 
 pub returns : goal.returns

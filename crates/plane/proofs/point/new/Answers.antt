@@ -1,6 +1,5 @@
 -- The entry `point::new`.
 use Rattle.plane.specs.Point.{finite_point}
-use borrow.Author.Rules.{rules}
 use Rattle.plane.proofs.point.new.Goals as goal
 
 pub returns : goal.returns

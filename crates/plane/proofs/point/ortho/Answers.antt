@@ -1,5 +1,4 @@
 -- The entry `point::ortho`: the method of that name, beside the number of what is refused.
-use borrow.Author.Rules.{rules}
 use Rattle.plane.proofs.point.ortho.Goals as goal
 
 pub returns : goal.returns

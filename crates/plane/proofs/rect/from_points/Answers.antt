@@ -1,5 +1,4 @@
 -- The entry `rect::from_points`: the method of that name, beside the number of what is refused.
-use borrow.Author.Rules.{rules}
 use Rattle.plane.proofs.rect.from_points.Goals as goal
 
 pub returns : goal.returns

@@ -1,5 +1,4 @@
 -- The entry `rect::is_empty`: the method of that name, beside the number of what is refused.
-use borrow.Author.Rules.{rules}
 use Rattle.plane.proofs.rect.is_empty.Goals as goal
 
 pub returns : goal.returns

@@ -1,7 +1,6 @@
 use Rattle.float.proofs.Choice.{ask_yes, ask_no}
 use mathlib.Core.Path.{refl}
 use Rattle.plane.specs.Rect.{or_empty}
-use borrow.Author.Rules.{rules}
 use Rattle.plane.proofs.rect.or_empty.Goals as goal
 
 pub returns-then-is_empty : goal.returns-then-is_empty

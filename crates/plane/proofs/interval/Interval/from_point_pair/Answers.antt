@@ -1,4 +1,3 @@
-use borrow.Author.Rules.{rules}
 use Rattle.plane.specs.Interval.{between}
 use Rattle.plane.proofs.interval.Interval.from_point_pair.Goals as goal
 

@@ -1,5 +1,4 @@
 use Rattle.plane.specs.Interval.{intersection_of}
-use borrow.Author.Rules.{rules}
 use Rattle.plane.proofs.interval.Interval.intersection.Goals as goal
 
 pub returns : goal.returns

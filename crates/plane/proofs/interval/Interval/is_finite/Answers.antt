@@ -1,5 +1,4 @@
 use Rattle.plane.specs.Interval.{finite_interval}
-use borrow.Author.Rules.{rules}
 use Rattle.plane.proofs.interval.Interval.is_finite.Goals as goal
 
 pub returns : goal.returns

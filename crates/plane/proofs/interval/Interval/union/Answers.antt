@@ -1,7 +1,6 @@
 use Rattle.float.proofs.Choice.{ask_yes, ask_no}
 use mathlib.Core.Path.{refl}
 use Rattle.plane.specs.Interval.{union_of}
-use borrow.Author.Rules.{rules}
 use Rattle.plane.proofs.interval.Interval.union.Goals as goal
 
 pub returns-then-is_empty : goal.returns-then-is_empty

@@ -1,5 +1,4 @@
 use Rattle.plane.specs.Point.{finite_point}
-use borrow.Author.Rules.{rules}
 use Rattle.plane.proofs.point.Point.is_finite.Goals as goal
 
 pub returns : goal.returns

@@ -1,5 +1,4 @@
 -- `Rect::from_points` is `boxOf`: axis by axis, from what its calls give.
-use borrow.Author.Rules.{rules}
 use Rattle.plane.proofs.rect.Rect.from_points.Goals as goal
 
 pub returns : goal.returns

@@ -1,5 +1,4 @@
 -- `Rect::intersection` is `intersectionRect`: axis by axis, from what its calls give.
-use borrow.Author.Rules.{rules}
 use Rattle.plane.proofs.rect.Rect.intersection.Goals as goal
 
 pub returns : goal.returns

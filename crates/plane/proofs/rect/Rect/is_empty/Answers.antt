@@ -1,5 +1,4 @@
 -- `Rect::is_empty` is `isEmptyRect`: x is asked, and y is not.
-use borrow.Author.Rules.{rules}
 use Rattle.plane.proofs.rect.Rect.is_empty.Goals as goal
 
 pub returns : goal.returns

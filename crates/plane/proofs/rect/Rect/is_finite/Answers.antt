@@ -1,5 +1,4 @@
 use Rattle.plane.specs.Rect.{finite_rect}
-use borrow.Author.Rules.{rules}
 use Rattle.plane.proofs.rect.Rect.is_finite.Goals as goal
 
 pub returns : goal.returns

@@ -1,5 +1,4 @@
 -- `Rect::union` is `unionRect`: axis by axis, from what its calls give.
-use borrow.Author.Rules.{rules}
 use Rattle.plane.proofs.rect.Rect.union.Goals as goal
 
 pub returns : goal.returns

@@ -1,5 +1,4 @@
 -- `Rect::vertex` is `cornerOf`: axis by axis, from what its calls give.
-use borrow.Author.Rules.{rules}
 use Rattle.plane.proofs.rect.Rect.vertex.Goals as goal
 
 pub returns : goal.returns

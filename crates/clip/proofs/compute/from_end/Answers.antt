@@ -1,0 +1,6 @@
+-- `from_end` is `fromEnd`, operation by operation.
+use mathlib.Core.Path.{refl}
+use Rattle.clip.proofs.compute.from_end.Goals as goal
+
+pub returns : goal.returns
+returns c = refl
