@@ -68,6 +68,7 @@ length_group n = ap suc (length_hex 16 n)
 -- the highest of k + 1 digits, stored, leaves the k others
 pub hex_step : (xs : List ℕ) (p k n : ℕ) → 0 < k → stored xs p (hex k n) ≡ stored (set xs p (digit_of (n / 2 ^ (4 * (k - 1)) % 16))) (p + 1) (hex (k - 1) n)
 unfolding stored hex
+hex_step xs p zero n h = elim h [ ]
 hex_step xs p (suc k) n h = let e : suc k - 1 ≡ k = omega arith in rw e
 
 -- no digit is left: the run that began with a space is a group, whole
@@ -85,6 +86,7 @@ length_bytes (suc k) n = ap suc (length_bytes k (n / 256))
 -- the lowest of k + 1 bytes, stored, leaves the k others
 pub bytes_step : (xs : List ℕ) (p k n : ℕ) → 0 < k → stored xs p (bytes_of k n) ≡ stored (set xs p (n % 256)) (p + 1) (bytes_of (k - 1) (n / 256))
 unfolding stored bytes_of
+bytes_step xs p zero n h = elim h [ ]
 bytes_step xs p (suc k) n h = let e : suc k - 1 ≡ k = omega arith in rw e
 
 -- no byte is left

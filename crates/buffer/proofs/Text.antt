@@ -67,6 +67,7 @@ module _ (size : ℕ) (line : List ℕ → List ℕ) (torn : List ℕ) where
   lines_step : (s : List ℕ) (k : ℕ) → 0 < k
       → lines_of size line torn k s ≡ line (take size s) ++ lines_of size line torn (k - 1) (drop size s)
   unfolding lines_of
+  lines_step s zero h = elim h [ ]
   lines_step s (suc k) h = let e : suc k - 1 ≡ k = omega arith in rw e
 
   -- ---- writing: of n records the lines of i are stored, up to the place `to`. The lines left, stored there, give what the

@@ -1,5 +1,5 @@
 -- A part of a buffer, lent to a call; and two calls, each with a part of its own.
-use Rattle.std.specs.Prelude.{ℕ, ◌+◌, ◌-◌, ◌≤◌, ◌≡◌, List, ◌++◌, length, take, drop}
+use Rattle.std.specs.Prelude.{ℕ, ◌+◌, ◌-◌, ◌≡◌, List, ◌++◌, take, drop}
 
 -- the n bytes of xs from the place p on
 abbrev pub part : ℕ → ℕ → List ℕ → List ℕ
