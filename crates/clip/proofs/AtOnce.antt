@@ -54,6 +54,21 @@ pub record AllFit (a b : Point) (w : Rect) : Type 0 where
   pub y_low : Fit w.y.lo
   pub y_high : Fit w.y.hi
 
+-- every float that the language hands over is one of binary64
+pub all_fit : (a b : Point) (w : Rect) → fits binary64 a.x ≡ true → fits binary64 a.y ≡ true → fits binary64 b.x ≡ true → fits binary64 b.y ≡ true
+    → fits binary64 w.x.lo ≡ true → fits binary64 w.x.hi ≡ true → fits binary64 w.y.lo ≡ true → fits binary64 w.y.hi ≡ true → AllFit a b w
+all_fit a b w ax ay bx by xl xh yl yh =
+    record {
+      ax = record { holds = ax };
+      ay = record { holds = ay };
+      bx = record { holds = bx };
+      by = record { holds = by };
+      x_low = record { holds = xl };
+      x_high = record { holds = xh };
+      y_low = record { holds = yl };
+      y_high = record { holds = yh };
+    }
+
 pub all_handed : (a b : Point) (w : Rect) → AllFit a b w → HandedIn (floats_of a b w)
 unfolding every
 all_handed a b w t =

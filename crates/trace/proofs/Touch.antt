@@ -33,6 +33,7 @@ is_num x = go (is_nan x)
   where
     go : (t : Bool) → T (not t) → t ≡ false
     go false k = refl
+    go true k = elim k [ ]
 
 pub differs : (x y : Float) → Number x → Number y → (lt x y || lt y x) ≡ not (eq x y)
 differs x y n m = one_less x y (is_num x n) (is_num y m)

@@ -8,7 +8,7 @@ use mathlib.Core.List.{List, [], ◌∷◌}
 use lib.Dec.{eqb}
 use lib.Ieee.{Float, eq}
 use lib.ListN.{length, get_or}
-use Rattle.float.specs.Choice.{when◌then◌else◌, ◌and◌}
+use Rattle.float.specs.Choice.{when◌then◌else◌}
 use Rattle.float.proofs.Choice.{else_is, and_parts, and_both}
 use Rattle.float.proofs.Order.{le_trans, le_eq, eq_le}
 use Rattle.answer.specs.Answer.{done, beside}

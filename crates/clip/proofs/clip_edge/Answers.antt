@@ -5,7 +5,7 @@ use Rattle.answer.proofs.Beside.{ask_other}
 use Rattle.clip.specs.declared.Clipped.TheVariants.{Kept}
 use Rattle.clip.specs.Answers.{clipped}
 use Rattle.clip.proofs.Early.{inside_early, apart_early}
-use Rattle.clip.proofs.AtOnce.{AllFit}
+use Rattle.clip.proofs.AtOnce.{AllFit, all_fit}
 use Rattle.clip.proofs.OwnBox.{own_answer}
 use borrow.Author.Rules.{rules}
 use Rattle.clip.proofs.clip_edge.Goals as goal
@@ -24,34 +24,12 @@ returns-then-is_apart c =
 
 pub returns-then-slope_is_negative : goal.returns-then-slope_is_negative
 returns-then-slope_is_negative c =
-    -- all floats of the language are values of binary64
-    let handed : AllFit c.args.a c.args.b c.args.window =
-    record {
-      ax = record { holds = search rules };
-      ay = record { holds = search rules };
-      bx = record { holds = search rules };
-      by = record { holds = search rules };
-      x_low = record { holds = search rules };
-      x_high = record { holds = search rules };
-      y_low = record { holds = search rules };
-      y_high = record { holds = search rules };
-    } in
+    let handed : AllFit c.args.a c.args.b c.args.window = search (rules, all_fit) in
     let n = sym c.if-slope_is_negative.true ∙ c.slope_is_negative.ensures in
     own_answer _ _ _ handed (sym c.edge-number.ensures ∙ c.if-number-ne-DONE.false) true n _ c.from_points-first.ensures _ c.cut_sides.ensures _ c.edge_answer.ensures
 
 pub returns : goal.returns
 returns c =
-    -- all floats of the language are values of binary64
-    let handed : AllFit c.args.a c.args.b c.args.window =
-    record {
-      ax = record { holds = search rules };
-      ay = record { holds = search rules };
-      bx = record { holds = search rules };
-      by = record { holds = search rules };
-      x_low = record { holds = search rules };
-      x_high = record { holds = search rules };
-      y_low = record { holds = search rules };
-      y_high = record { holds = search rules };
-    } in
+    let handed : AllFit c.args.a c.args.b c.args.window = search (rules, all_fit) in
     let n = sym c.if-slope_is_negative.false ∙ c.slope_is_negative.ensures in
     own_answer _ _ _ handed (sym c.edge-number.ensures ∙ c.if-number-ne-DONE.false) false n _ c.from_points-first.ensures _ c.cut_sides-2.ensures _ c.edge_answer-2.ensures

@@ -2,7 +2,7 @@
 use mathlib.Core.Path.{sym, ◌∙◌}
 use lib.Ieee.{of_bits}
 use Rattle.float.proofs.Choice.{and_parts}
-use Rattle.clip.proofs.AtOnce.{AllFit, at_once}
+use Rattle.clip.proofs.AtOnce.{AllFit, all_fit, at_once}
 use borrow.Author.Rules.{rules}
 use Rattle.clip.proofs.refuse.surely_fine.Goals as goal
 
@@ -10,18 +10,7 @@ pub returns : goal.returns
 unfolding of_bits
 returns c =
     λ h.
-    -- all floats of the language are values of binary64
-    let handed : AllFit c.args.a c.args.b c.args.window =
-    record {
-      ax = record { holds = search rules };
-      ay = record { holds = search rules };
-      bx = record { holds = search rules };
-      by = record { holds = search rules };
-      x_low = record { holds = search rules };
-      x_high = record { holds = search rules };
-      y_low = record { holds = search rules };
-      y_high = record { holds = search rules };
-    } in
+    let handed : AllFit c.args.a c.args.b c.args.window = search (rules, all_fit) in
     let (total, order) = and_parts _ _ (sym c.both-2.ensures ∙ h) in
     let (x, y) = and_parts _ _ (sym c.both.ensures ∙ order) in
     at_once c.args.a c.args.b c.args.window handed (rw (c.sizes.ensures, c.sizes-2.ensures, c.sizes-3.ensures, c.sizes-4.ensures) at total) x y

@@ -1,0 +1,5 @@
+-- `own_box` is `boxOf`: axis by axis, from what its calls give.
+use Rattle.trace.proofs.edge.own_box.Goals as goal
+
+pub returns : goal.returns
+returns c = rw (c.span-2.ensures, c.span.ensures)

@@ -1,0 +1,5 @@
+-- `samples` is what it refuses, in order.
+use Rattle.trace.proofs.refuse.samples.Goals as goal
+
+pub returns : goal.returns
+returns c = cc
