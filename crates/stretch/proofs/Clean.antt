@@ -1,9 +1,8 @@
 -- A clean sample: in a window that is not refused it is one in the window, and a dead one is in no case clean.
 use mathlib.Core.Path.{◌≡◌, refl, sym, ◌∙◌}
 use mathlib.Core.Logic.{◌↔◌}
-use mathlib.Core.Bool.{Bool, true, false, not, false≢true}
+use mathlib.Core.Bool.{Bool, true, false, false≢true}
 use lib.Ieee.{Float, le}
-use borrow.Author.Tests.{not-true, not-false}
 use Rattle.float.specs.Choice.{◌and◌}
 use Rattle.float.proofs.Choice.{and_parts, and_both, same, else_is}
 use Rattle.plane.specs.Point.{at}
@@ -29,22 +28,22 @@ second_false : (p q : Bool) → q ≡ false → (p and q) ≡ false
 second_false p q e = same _ _ (λ h. absurd (false≢true (sym e ∙ (and_parts p q h).1))) (λ h. absurd (false≢true h))
 
 module _ (w : Rect) (x y : Float) (fine : window_fine w ≡ true) where
-  pub above : not (le y w.y.hi) ≡ true → false ≡ clean w (at x y)
+  pub above : le y w.y.hi ≡ false → false ≡ clean w (at x y)
   unfolding contains_point holds
-  above h = sym (second_false _ _ (second_false _ _ (not-true _ h))) ∙ clean_inside w (at x y) fine
+  above h = sym (second_false _ _ (second_false _ _ h)) ∙ clean_inside w (at x y) fine
 
-  pub left_of : not (le w.x.lo x) ≡ true → false ≡ clean w (at x y)
+  pub left_of : le w.x.lo x ≡ false → false ≡ clean w (at x y)
   unfolding contains_point holds
-  left_of h = sym (first_false _ _ (first_false _ _ (not-true _ h))) ∙ clean_inside w (at x y) fine
+  left_of h = sym (first_false _ _ (first_false _ _ h)) ∙ clean_inside w (at x y) fine
 
-  pub below : not (le w.y.lo y) ≡ true → false ≡ clean w (at x y)
+  pub below : le w.y.lo y ≡ false → false ≡ clean w (at x y)
   unfolding contains_point holds
-  below h = sym (second_false _ _ (first_false _ _ (not-true _ h))) ∙ clean_inside w (at x y) fine
+  below h = sym (second_false _ _ (first_false _ _ h)) ∙ clean_inside w (at x y) fine
 
-  pub by_right : not (le y w.y.hi) ≡ false → not (le w.x.lo x) ≡ false → not (le w.y.lo y) ≡ false → le x w.x.hi ≡ clean w (at x y)
+  pub by_right : le y w.y.hi ≡ true → le w.x.lo x ≡ true → le w.y.lo y ≡ true → le x w.x.hi ≡ clean w (at x y)
   unfolding contains_point holds
   by_right a l b =
-      same _ _ (λ r. and_both _ _ (and_both _ _ (not-false _ l) r) (and_both _ _ (not-false _ b) (not-false _ a))) (λ h. (and_parts _ _ (and_parts _ _ h).0).1)
+      same _ _ (λ r. and_both _ _ (and_both _ _ l r) (and_both _ _ b a)) (λ h. (and_parts _ _ (and_parts _ _ h).0).1)
       ∙ clean_inside w (at x y) fine
 
 pub clean_is : (w : Rect) (p : Point) → clean w p ≡ true ↔ ((point_fine p ≡ true) × InRect w p)
