@@ -1,7 +1,8 @@
 -- The six rules and the refusal for the rest, and a refusal after it: the entries' numbers.
 use mathlib.Core.Path.{◌≡◌, refl, ap, ◌∙◌}
 use mathlib.Core.Bool.{Bool, true, false}
-use Prim.Native.Nat.{ℕ}
+use Prim.Native.Nat.{ℕ, ◌<◌}
+use borrow.Author.Tests.{lt-leb}
 use lib.Ieee.{Float, lt}
 use Rattle.float.specs.Choice.{when◌then◌else◌}
 use Rattle.float.specs.Float.{zero_f}
@@ -15,18 +16,18 @@ use Rattle.cube.specs.declared.vector.Vector.{Vector}
 use Rattle.cube.specs.declared.compute.Uv.{Uv}
 use Rattle.cube.specs.declared.UvAnswer.{UvAnswer}
 use Rattle.cube.specs.declared.VectorAnswer.{VectorAnswer}
-use Rattle.cube.proofs.Six.{Else, none_is, none_le}
+use Rattle.cube.proofs.Six.{beyond_is}
 
 -- ---- the last arm
-refused_is : (f : ℕ) → Else f → bad_face ≡ face_refusal f true
+refused_is : (f : ℕ) → 5 < f → bad_face ≡ face_refusal f true
 unfolding cube_refusal
-refused_is f h = else_is _ _ _ _ (none_le f h) refl
+refused_is f h = else_is _ _ _ _ (lt-leb f 5 h) refl
 
-pub vector_refused_lem : (f : ℕ) (a b c d e g : Vector) (r : VectorAnswer) → r ≡ vector_refused bad_face → Else f → r ≡ on_face f (by_face f a b c d e g zero_vector)
-vector_refused_lem f a b c d e g r q h = q ∙ (cc (refused_is f h, none_is f a b c d e g zero_vector h))
+pub vector_refused_lem : (f : ℕ) (a b c d e g : Vector) (r : VectorAnswer) → r ≡ vector_refused bad_face → 5 < f → r ≡ on_face f (by_face f a b c d e g zero_vector)
+vector_refused_lem f a b c d e g r q h = q ∙ (cc (refused_is f h, beyond_is f a b c d e g zero_vector h))
 
-pub uv_refused_lem : (f : ℕ) (a b c d e g : Uv) (r : UvAnswer) → r ≡ uv_refused bad_face → Else f → r ≡ uv_on_face f (by_face f a b c d e g (uv zero_f zero_f))
-uv_refused_lem f a b c d e g r q h = q ∙ (cc (refused_is f h, none_is f a b c d e g (uv zero_f zero_f) h))
+pub uv_refused_lem : (f : ℕ) (a b c d e g : Uv) (r : UvAnswer) → r ≡ uv_refused bad_face → 5 < f → r ≡ uv_on_face f (by_face f a b c d e g (uv zero_f zero_f))
+uv_refused_lem f a b c d e g r q h = q ∙ (cc (refused_is f h, beyond_is f a b c d e g (uv zero_f zero_f) h))
 
 -- ---- what is taken out of an answer
 pub vector_of : (n : ℕ) (p : Vector) (r : VectorAnswer) → r ≡ record { number = n; vector = p } → r.vector ≡ p

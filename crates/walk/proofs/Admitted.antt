@@ -1,13 +1,13 @@
 -- What the input's tests admit.
 use Prim.Native.Nat.{ℕ, ◌≤◌}
 use native.Mathlib.Omega.{arith}
-use mathlib.Core.Path.{◌≡◌, refl}
-use mathlib.Core.Bool.{Bool, true, false}
+use mathlib.Core.Path.{◌≡◌}
+use mathlib.Core.Bool.{Bool, true}
 use borrow.Author.Tests.{not-true, leb-true}
 use Rattle.float.specs.Float.{finite}
 use Rattle.float.proofs.Choice.{split, cases, and_parts}
 use Rattle.float.proofs.Order.{finite_num}
-use Rattle.cube.specs.Vector.{finite_vector, is_zero, HandedIn}
+use Rattle.cube.specs.Vector.{HandedIn}
 use Rattle.cube.specs.Refuse.{cube_refusal}
 use Rattle.cube.specs.declared.vector.Vector.{Vector}
 use Rattle.cube.specs.declared.compute.Uv.{Uv}

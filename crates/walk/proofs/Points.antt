@@ -1,6 +1,6 @@
 -- On a face that the line meets: where it leaves is no NaN, and where it goes on is a face, entered at a point that is none.
 use Prim.Native.Nat.{ℕ, ◌≤◌}
-use mathlib.Core.Path.{◌≡◌, ◌∙◌}
+use mathlib.Core.Path.{◌≡◌}
 use mathlib.Core.Bool.{true, false}
 use Rattle.cube.specs.Vector.{is_zero}
 use Rattle.cube.specs.Faces.{uvw_of}

@@ -1,6 +1,6 @@
 -- The points of a walk stay in -1..1: where the line leaves a face, and the same point in the coordinates of the next.
 use Prim.Native.Nat.{ℕ, ◌≤◌}
-use mathlib.Core.Path.{◌≡◌, refl, sym, ◌∙◌}
+use mathlib.Core.Path.{◌≡◌, refl}
 use mathlib.Core.Bool.{Bool, true, false, not}
 use borrow.Author.Tests.{leb-true}
 use lib.Dec.{T, leb}
@@ -14,14 +14,12 @@ use Rattle.cube.specs.Vector.{vec}
 use Rattle.cube.specs.Faces as Faces
 use Rattle.cube.specs.Faces.{by_face}
 use Rattle.cube.specs.Promises.{InUnit, InSquare}
-use Rattle.cube.specs.declared.vector.Vector.{Vector}
 use Rattle.cube.specs.declared.compute.Uv.{Uv}
 use Rattle.cube.proofs.Six.{six, up_to, at}
 use Rattle.cube.proofs.Directions.{at_point, u_dir, v_dir, u_dir_le, v_dir_le}
 use Rattle.line.specs.declared.compute.Axis.{Axis}
 use Rattle.line.specs.declared.compute.Axis.TheVariants.{U, «V»}
-use Rattle.line.specs.Line.{by_axis, one_if, exit_point, coordinate, other_axis}
-use Rattle.line.specs.Promises.{Leaves}
+use Rattle.line.specs.Line.{by_axis, one_if, coordinate, other_axis}
 use Rattle.walk.specs.Walk.{moved_to}
 use Rattle.walk.specs.Inner.{Numbers}
 use Rattle.walk.proofs.Over.{moved_u, moved_v}

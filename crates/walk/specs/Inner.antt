@@ -1,5 +1,5 @@
 -- What the functions inside ask for and give. No entry's contract and no promise cites it: a reader of those can pass it over.
-use Rattle.std.specs.Prelude.{ℕ, ◌≤◌, ◌≡◌, false, not, T, Float}
+use Rattle.std.specs.Prelude.{ℕ, ◌≤◌, ◌≡◌, false, not, T}
 use Rattle.std.specs.Float.Ieee.{is_nan}
 use Rattle.cube.specs.Vector.{is_zero}
 use Rattle.cube.specs.declared.vector.Vector.{Vector}
