@@ -6,7 +6,7 @@ use mathlib.Core.Logic.{inl, inr}
 use mathlib.Core.Bool.{Bool, true, false, ◌||◌}
 use mathlib.Core.List.{List}
 use lib.Ieee.{Float, lt, of_bits}
-use Rattle.float.specs.Choice.{when◌then◌else◌, ◌and◌}
+use Rattle.float.specs.Choice.{when◌then◌else◌}
 use Rattle.float.specs.Float.{finite}
 use Rattle.float.proofs.Choice.{cases, then_is, else_is, and_parts, and_both}
 use Rattle.float.proofs.UpTo.{test_finite}

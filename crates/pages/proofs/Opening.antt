@@ -8,7 +8,6 @@ use mathlib.Core.Bool.{Bool, true, false, true≢false}
 use mathlib.Core.List.{List}
 use lib.Ieee.{Float, nan, is_nan, le, eq}
 use lib.ListN.{get_or}
-use Rattle.float.specs.Choice.{◌and◌}
 use Rattle.float.specs.Float.{one_f}
 use Rattle.float.proofs.Choice.{cases, and_parts, then_is, else_is, same}
 use Rattle.float.proofs.Order.{Num, le_num, le_refl, le_trans, total, eq_le}

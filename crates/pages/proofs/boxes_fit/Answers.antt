@@ -1,7 +1,6 @@
 -- `boxes_fit` is its test, turned.
 use Prim.Native.Nat.{◌-◌, ◌/◌}
 use Rattle.pages.proofs.Filling.{fit_turned}
-use borrow.Author.Rules.{rules}
 use Rattle.pages.proofs.boxes_fit.Goals as goal
 
 pub returns : goal.returns

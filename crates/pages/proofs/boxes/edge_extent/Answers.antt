@@ -1,6 +1,5 @@
 -- `edge_extent` is `edgeExtent` of the edge's two samples.
 use Rattle.pages.proofs.Filling.{live_extent, dead_extent}
-use borrow.Author.Rules.{rules}
 use Rattle.pages.proofs.boxes.edge_extent.Goals as goal
 
 pub returns-then-both : goal.returns-then-both

@@ -3,7 +3,6 @@ use Prim.Native.Nat.{◌*◌}
 use native.Mathlib.Omega.{arith}
 use lib.ListN.{length-set}
 use Rattle.pages.proofs.Storing.{five_stores}
-use borrow.Author.Rules.{rules}
 use Rattle.pages.proofs.boxes.put_extent.Goals as goal
 
 pub bounds-boxes-at-2 : goal.bounds-boxes-at-2

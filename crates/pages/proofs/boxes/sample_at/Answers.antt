@@ -1,6 +1,5 @@
 -- `sample_at` reads two floats.
 use Rattle.trace.proofs.Samples.{sample_is}
-use borrow.Author.Rules.{rules}
 use Rattle.pages.proofs.boxes.sample_at.Goals as goal
 
 pub returns : goal.returns

@@ -1,6 +1,5 @@
 -- `is_kept` asks for the edge between two samples.
 use Rattle.pages.proofs.Going.{kept_at_lem}
-use borrow.Author.Rules.{rules}
 use Rattle.pages.proofs.search.is_kept.Goals as goal
 
 pub returns : goal.returns

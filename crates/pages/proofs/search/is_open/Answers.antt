@@ -1,7 +1,5 @@
 use mathlib.Core.Path.{sym, ◌∙◌}
-use borrow.Author.Tests.{not-true, not-false}
 use Rattle.pages.proofs.Opening.{no_mark, x_misses, x_meets, some_window}
-use borrow.Author.Rules.{rules}
 use Rattle.pages.proofs.search.is_open.Goals as goal
 
 pub returns-then-not-boxes-at : goal.returns-then-not-boxes-at

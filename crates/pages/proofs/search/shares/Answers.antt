@@ -1,5 +1,4 @@
 -- `shares` is `intersects`, by three comparisons.
-use borrow.Author.Tests.{not-true, not-false}
 use Rattle.pages.proofs.Opening.{above, below, over}
 use Rattle.pages.proofs.search.shares.Goals as goal
 

@@ -1,5 +1,4 @@
 use mathlib.Core.Path.{refl}
-use borrow.Author.Rules.{rules}
 use Rattle.pages.proofs.boxes.Extent.join.Goals as goal
 
 pub returns : goal.returns
