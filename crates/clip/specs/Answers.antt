@@ -47,15 +47,15 @@ second a b = when eq a b then a else b
 abbrev pub whole : Point → Point → Segment
 whole a b = record { ax = a.x; ay = a.y; bx = second a.x b.x; by = second a.y b.y }
 
-unfoldable pub edgeAnswer : Point → Point → BoxCut → Clipped
-edgeAnswer a b (Inside r) = Kept (ends a b r)
-edgeAnswer a b Outside = Missed
+unfoldable pub edge_answer : Point → Point → BoxCut → Clipped
+edge_answer a b (Inside r) = Kept (ends a b r)
+edge_answer a b Outside = Missed
 
 -- the refusal, or what is left of the box of A and B
 unfoldable pub clipped : Point → Point → Rect → Clipped
 clipped a b window =
     let n = edge_refusal a b window in
-    beside n (edgeAnswer a b (box_cut a b window (box_of a b))) (Refused n)
+    beside n (edge_answer a b (box_cut a b window (box_of a b))) (Refused n)
 
 -- document 01's number and values of each case
 unfoldable pub number_of : Clipped → ℕ
@@ -77,41 +77,41 @@ second_of s = at s.bx s.by
 
 -- ---- clip_edge_bound, clip_bound_axis, update_endpoint
 
-unfoldable pub boundAnswer : BoxCut → RectAnswer
-boundAnswer (Inside r) = rect_answer done r
-boundAnswer Outside = rect_answer missed zero_rect
+unfoldable pub bound_answer : BoxCut → RectAnswer
+bound_answer (Inside r) = rect_answer done r
+bound_answer Outside = rect_answer missed zero_rect
 
-unfoldable pub boundOrRefusal : Point → Point → Rect → Rect → RectAnswer
-boundOrRefusal a b window bound =
+unfoldable pub bound_or_refusal : Point → Point → Rect → Rect → RectAnswer
+bound_or_refusal a b window bound =
     let n = bound_refusal a b window bound in
-    beside n (boundAnswer (box_cut a b window bound)) (rect_answer n zero_rect)
+    beside n (bound_answer (box_cut a b window bound)) (rect_answer n zero_rect)
 
-abbrev pub axesAnswer : ℕ → Interval → Interval → AxesAnswer
-axesAnswer n this other =
+abbrev pub axes_answer : ℕ → Interval → Interval → AxesAnswer
+axes_answer n this other =
     record { number = n; both = beside n (record { this = this; other = other }) (record { this = zero_interval; other = zero_interval }) }
 
-unfoldable pub axisAnswer : AxisCut → AxesAnswer
-axisAnswer (Left s) = axesAnswer done s.this s.other
-axisAnswer Gone = axesAnswer missed zero_interval zero_interval
+unfoldable pub axis_answer : AxisCut → AxesAnswer
+axis_answer (Left s) = axes_answer done s.this s.other
+axis_answer Gone = axes_answer missed zero_interval zero_interval
 
-unfoldable pub axisOrRefusal : Float → Float → Interval → Float → Float → Interval → Bool → Interval → AxesAnswer
-axisOrRefusal a0 b0 bound0 a1 b1 bound1 negative window =
+unfoldable pub axis_or_refusal : Float → Float → Interval → Float → Float → Interval → Bool → Interval → AxesAnswer
+axis_or_refusal a0 b0 bound0 a1 b1 bound1 negative window =
     let n = axis_refusal a0 b0 bound0 a1 b1 bound1 window in
-    beside n (axisAnswer (axis_cut a0 b0 bound0 a1 b1 bound1 negative window)) (axesAnswer n zero_interval zero_interval)
+    beside n (axis_answer (axis_cut a0 b0 bound0 a1 b1 bound1 negative window)) (axes_answer n zero_interval zero_interval)
 
-unfoldable pub endAnswer : Moved → IntervalAnswer
-endAnswer (To i) = interval_answer done i
-endAnswer Lost = interval_answer missed zero_interval
+unfoldable pub end_answer : Moved → IntervalAnswer
+end_answer (To i) = interval_answer done i
+end_answer Lost = interval_answer missed zero_interval
 
-unfoldable pub endOrRefusal : Interval → Bool → Float → IntervalAnswer
-endOrRefusal bound high v =
+unfoldable pub end_or_refusal : Interval → Bool → Float → IntervalAnswer
+end_or_refusal bound high v =
     let n = end_refusal bound v in
-    beside n (endAnswer (moved_end bound high v)) (interval_answer n zero_interval)
+    beside n (end_answer (moved_end bound high v)) (interval_answer n zero_interval)
 
 -- ---- edge_intersects_rect, interpolate
 
-abbrev pub meetsOrRefusal : Point → Point → Rect → YesNo
-meetsOrRefusal a b window = yes_no_answer (edge_refusal a b window) (edge_meets a b window)
+abbrev pub meets_or_refusal : Point → Point → Rect → YesNo
+meets_or_refusal a b window = yes_no_answer (edge_refusal a b window) (edge_meets a b window)
 
-abbrev pub valueOrRefusal : Float → Float → Float → Float → Float → Real
-valueOrRefusal x a b a1 b1 = real_answer (value_refusal x a b a1 b1) (value_at x a b a1 b1)
+abbrev pub value_or_refusal : Float → Float → Float → Float → Float → Real
+value_or_refusal x a b a1 b1 = real_answer (value_refusal x a b a1 b1) (value_at x a b a1 b1)

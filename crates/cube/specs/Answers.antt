@@ -10,14 +10,14 @@ use Rattle.cube.specs.declared.FaceUv.{FaceUv}
 use Rattle.cube.specs.declared.UvAnswer.{UvAnswer}
 use Rattle.cube.specs.declared.VectorAnswer.{VectorAnswer}
 
-abbrev pub faceAnswer : ℕ → ℕ → FaceAnswer
-faceAnswer n f = record { number = n; face = beside n f 0 }
+abbrev pub face_answer : ℕ → ℕ → FaceAnswer
+face_answer n f = record { number = n; face = beside n f 0 }
 
-abbrev pub faceUvAnswer : ℕ → ℕ → Uv → FaceUv
-faceUvAnswer n f p = record { number = n; face = beside n f 0; u = beside n p.u zero_f; v = beside n p.v zero_f }
+abbrev pub face_uv_answer : ℕ → ℕ → Uv → FaceUv
+face_uv_answer n f p = record { number = n; face = beside n f 0; u = beside n p.u zero_f; v = beside n p.v zero_f }
 
-abbrev pub uvAnswer : ℕ → Uv → UvAnswer
-uvAnswer n p = record { number = n; u = beside n p.u zero_f; v = beside n p.v zero_f }
+abbrev pub uv_answer : ℕ → Uv → UvAnswer
+uv_answer n p = record { number = n; u = beside n p.u zero_f; v = beside n p.v zero_f }
 
-abbrev pub vectorAnswer : ℕ → Vector → VectorAnswer
-vectorAnswer n p = record { number = n; vector = beside n p zero_vector }
+abbrev pub vector_answer : ℕ → Vector → VectorAnswer
+vector_answer n p = record { number = n; vector = beside n p zero_vector }

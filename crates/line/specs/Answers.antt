@@ -5,5 +5,5 @@ use Rattle.line.specs.declared.compute.Axis.{Axis}
 use Rattle.line.specs.declared.compute.Axis.TheVariants.{U}
 use Rattle.line.specs.declared.AxisAnswer.{AxisAnswer}
 
-abbrev pub axisAnswer : ℕ → Axis → AxisAnswer
-axisAnswer n a = record { number = n; axis = beside n a U }
+abbrev pub axis_answer : ℕ → Axis → AxisAnswer
+axis_answer n a = record { number = n; axis = beside n a U }

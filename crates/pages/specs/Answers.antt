@@ -19,45 +19,45 @@ abbrev pub edge_count : ℕ → ℕ
 edge_count floats = floats / 2 - 1
 
 -- five floats for each of 2m - 1 boxes, and none of no edge
-abbrev pub floatsFor : ℕ → ℕ
-floatsFor edges = 5 * (2 * edges - 1)
+abbrev pub floats_for : ℕ → ℕ
+floats_for edges = 5 * (2 * edges - 1)
 
-abbrev pub boxesFit : ℕ → ℕ → Bool
-boxesFit edges room = leb (floatsFor edges) room
+abbrev pub boxes_fit : ℕ → ℕ → Bool
+boxes_fit edges room = leb (floats_for edges) room
 
 -- with so many floats lent; a window is asked for where there is one
-abbrev pub pagesNumber : ℕ → ℕ → ℕ
-pagesNumber floats room = in_order (trace_fine floats) true (boxesFit (edge_count floats) room)
+abbrev pub pages_number : ℕ → ℕ → ℕ
+pages_number floats room = in_order (trace_fine floats) true (boxes_fit (edge_count floats) room)
 
-abbrev pub keptNumber : ℕ → Rect → ℕ → ℕ
-keptNumber floats w room = in_order (trace_fine floats) (window_fine w) (boxesFit (edge_count floats) room)
+abbrev pub kept_number : ℕ → Rect → ℕ → ℕ
+kept_number floats w room = in_order (trace_fine floats) (window_fine w) (boxes_fit (edge_count floats) room)
 
 -- ---- `build_pages`
 
-abbrev pub pagesAnswer : ℕ → ℕ → PagesAnswer
-pagesAnswer floats room =
-    record { number = pagesNumber floats room; floats = beside (pagesNumber floats room) (floatsFor (edge_count floats)) 0 }
+abbrev pub pages_answer : ℕ → ℕ → PagesAnswer
+pages_answer floats room =
+    record { number = pages_number floats room; floats = beside (pages_number floats room) (floats_for (edge_count floats)) 0 }
 
 -- the boxes of all edges of a trace
-unfoldable pub traceBoxes : List Float → List Float
-traceBoxes fs =
+unfoldable pub trace_boxes : List Float → List Float
+trace_boxes fs =
     let edges = edge_count (length fs) in
     when eqb edges 0 then [] else boxes_of (samples_of fs) (halves_of edges) 0
 
 -- with 0 the boxes followed by the old floats, and with any other number the old floats
-unfoldable pub bufferAfter : List Float → List Float → List Float
-bufferAfter xs fs =
-    beside (pagesNumber (length fs) (length xs)) (traceBoxes fs ++ drop (length (traceBoxes fs)) xs) xs
+unfoldable pub buffer_after : List Float → List Float → List Float
+buffer_after xs fs =
+    beside (pages_number (length fs) (length xs)) (trace_boxes fs ++ drop (length (trace_boxes fs)) xs) xs
 
 -- ---- `first_kept`
 
 -- of no edge, none and no box
-unfoldable pub searchAll : List Float → Rect → List Float → KeptAnswer
-searchAll fs w bs =
+unfoldable pub search_all : List Float → Rect → List Float → KeptAnswer
+search_all fs w bs =
     let edges = edge_count (length fs) in
     when eqb edges 0 then none missed 0 else search bs w (samples_of fs) (halves_of edges) 0 0
 
-unfoldable pub keptAnswer : List Float → Rect → List Float → KeptAnswer
-keptAnswer fs w bs =
-    let number = keptNumber (length fs) w (length bs) in
-    beside number (searchAll fs w bs) (none number 0)
+unfoldable pub kept_answer : List Float → Rect → List Float → KeptAnswer
+kept_answer fs w bs =
+    let number = kept_number (length fs) w (length bs) in
+    beside number (search_all fs w bs) (none number 0)

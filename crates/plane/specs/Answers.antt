@@ -13,20 +13,20 @@ use Rattle.plane.specs.declared.rect.Rect.{Rect}
 use Rattle.plane.specs.declared.rect.RectAnswer.{RectAnswer}
 use Rattle.plane.specs.declared.rect.Corners.{Corners}
 
-abbrev pub zeroInterval : Interval
-zeroInterval = from zero_f to zero_f
+abbrev pub zero_interval : Interval
+zero_interval = from zero_f to zero_f
 
-abbrev pub zeroRect : Rect
-zeroRect = zeroInterval by zeroInterval
+abbrev pub zero_rect : Rect
+zero_rect = zero_interval by zero_interval
 
-abbrev pub pointAnswer : ℕ → Point → PointAnswer
-pointAnswer n p = record { number = n; point = beside n p origin }
+abbrev pub point_answer : ℕ → Point → PointAnswer
+point_answer n p = record { number = n; point = beside n p origin }
 
-abbrev pub intervalAnswer : ℕ → Interval → IntervalAnswer
-intervalAnswer n i = record { number = n; interval = beside n i zeroInterval }
+abbrev pub interval_answer : ℕ → Interval → IntervalAnswer
+interval_answer n i = record { number = n; interval = beside n i zero_interval }
 
-abbrev pub rectAnswer : ℕ → Rect → RectAnswer
-rectAnswer n r = record { number = n; rect = beside n r zeroRect }
+abbrev pub rect_answer : ℕ → Rect → RectAnswer
+rect_answer n r = record { number = n; rect = beside n r zero_rect }
 
-abbrev pub cornersAnswer : ℕ → List Point → Corners
-cornersAnswer n ps = record { number = n; vertices = beside n ps (origin ∷ origin ∷ origin ∷ origin ∷ []) }
+abbrev pub corners_answer : ℕ → List Point → Corners
+corners_answer n ps = record { number = n; vertices = beside n ps (origin ∷ origin ∷ origin ∷ origin ∷ []) }

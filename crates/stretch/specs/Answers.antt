@@ -9,13 +9,13 @@ use Rattle.stretch.specs.Longest.{earliest, longest}
 use Rattle.stretch.specs.declared.StretchAnswer.{StretchAnswer}
 
 -- of so many floats and a window; nothing is lent, so there is no third refusal
-abbrev pub stretchNumber : ℕ → Rect → ℕ
-stretchNumber floats w = in_order (trace_fine floats) (window_fine w) true
+abbrev pub stretch_number : ℕ → Rect → ℕ
+stretch_number floats w = in_order (trace_fine floats) (window_fine w) true
 
 -- the earliest of the longest clean runs beside 0, zeros beside another number
-unfoldable pub stretchOf : List Float → Rect → StretchAnswer
-stretchOf fs w =
-    let number = stretchNumber (length fs) w in
+unfoldable pub stretch_of : List Float → Rect → StretchAnswer
+stretch_of fs w =
+    let number = stretch_number (length fs) w in
     let ps = samples_of fs in
     record { number = number; first = beside number (earliest w ps (longest w ps)) 0; count = beside number (longest w ps) 0 }
 

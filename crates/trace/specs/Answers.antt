@@ -10,12 +10,12 @@ use Rattle.trace.specs.Refuse.{trace_number}
 use Rattle.trace.specs.declared.TraceAnswer.{TraceAnswer}
 
 -- zeros beside a number
-abbrev pub noEdges : ℕ → TraceAnswer
-noEdges n = record { number = n; kept = 0; missed = 0; refused = 0; edges = 0 }
+abbrev pub no_edges : ℕ → TraceAnswer
+no_edges n = record { number = n; kept = 0; missed = 0; refused = 0; edges = 0 }
 
 -- the counts beside 0, or zeros beside another number
-abbrev pub traceAnswer : ℕ → List Clipped → TraceAnswer
-traceAnswer n cs =
+abbrev pub trace_answer : ℕ → List Clipped → TraceAnswer
+trace_answer n cs =
     record {
       number = n;
       kept = beside n (how_many is_kept cs) 0;
@@ -26,9 +26,9 @@ traceAnswer n cs =
 
 -- the answer, with so many bytes lent; touches are kept, or not
 abbrev pub answer_of : Bool → List Float → Rect → ℕ → TraceAnswer
-answer_of touches fs w bytes = traceAnswer (trace_number fs w bytes) (trace_cuts touches w fs)
+answer_of touches fs w bytes = trace_answer (trace_number fs w bytes) (trace_cuts touches w fs)
 
 -- with 0 the records, of the trace number that was handed in, followed by the old bytes; with any other number the old bytes
-unfoldable pub bufferAfter : Bool → List ℕ → List Float → Rect → ℕ → List ℕ
-bufferAfter touches xs fs w whose =
+unfoldable pub buffer_after : Bool → List ℕ → List Float → Rect → ℕ → List ℕ
+buffer_after touches xs fs w whose =
     beside (trace_number fs w (length xs)) (followed_by (records_of whose (trace_cuts touches w fs)) xs) xs
