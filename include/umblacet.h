@@ -1,4 +1,4 @@
-/* umblacet.h: chart code that is proved to do what it says. Link with libumblacet.a (`rt staticlib umblacet`).
+/* umblacet.h: chart code that is proved to do what it says. Link with libumblacet.a (`rt lib` in crates/umblacet).
  *
  * Every function answers every input: NaN, infinities, empty windows, faces above 5 and short buffers get a number,
  * and nothing traps. An answer is a struct whose first member is that number. Beside any number but UMB_DONE all its

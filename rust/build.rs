@@ -17,7 +17,7 @@ fn main() {
     let archive = folder.join(ARCHIVE);
     if !archive.is_file() {
         give_up(&format!(
-            "There is no {}: make it by `rt staticlib umblacet`, or set UMBLACET_LIB to the folder that has it.",
+            "There is no {}: make it by `rt lib` in crates/umblacet, or set UMBLACET_LIB to the folder that has it.",
             archive.display()
         ));
     }
@@ -35,7 +35,7 @@ fn target(what: &str) -> String {
 fn folder() -> PathBuf {
     let package = env::var_os("CARGO_MANIFEST_DIR").unwrap_or_default();
     let named = env::var_os("UMBLACET_LIB").filter(|named| !named.is_empty());
-    Path::new(&package).join(named.unwrap_or_else(|| "../target/staticlib".into()))
+    Path::new(&package).join(named.unwrap_or_else(|| "../crates/umblacet/out".into()))
 }
 
 fn give_up(sentence: &str) -> ! {
