@@ -20,7 +20,7 @@ use Rattle.stretch.specs.Answers.{stretch_of}
 use Rattle.stretch.specs.declared.StretchAnswer.{StretchAnswer}
 use Rattle.pages.specs.Answers as pages
 use Rattle.pages.specs.declared.KeptAnswer.{KeptAnswer}
-use Rattle.instances.specs.Numbers.{n0, -n1, tiny, n2+, n¼, n½, n¾, n1, n1½, n2, n3, n4, most, most+, huge, -huge, not_anumber, x◌to◌y◌to◌}
+use Rattle.instances.specs.Numbers.{n0, -n1, tiny, n2+, n¼, n½, n¾, n1, n1½, n2, n3, n4, most, most+, huge, -huge, not_a_number, x◌to◌y◌to◌}
 
 -- an edge's answer: its number, and the kept points or zeros
 abbrev pub told : Clipped → ℕ × Segment
@@ -59,7 +59,7 @@ stretched fs = stretch_of fs (x n0 to n4 y n0 to n1)
 
 -- three edges, up and down and to a dead sample: their boxes, of all, of the first two, of each of these, and of the dead one, and then the rest
 abbrev pub hill : List Float
-hill = n0 ∷ n0 ∷ n1 ∷ n1 ∷ n2 ∷ n0 ∷ n3 ∷ not_anumber ∷ []
+hill = n0 ∷ n0 ∷ n1 ∷ n1 ∷ n2 ∷ n0 ∷ n3 ∷ not_a_number ∷ []
 
 abbrev pub box : Float → Float → Float → Float → Float → List Float → List Float
 box low_x low_y high_x high_y mark rest = low_x ∷ low_y ∷ high_x ∷ high_y ∷ mark ∷ rest
@@ -104,7 +104,7 @@ pub record Instances : Type 0 where
   pub p4 : told (clipped (at n0 n0) (at n1 n1) (x n0 to n¼ y n¾ to n1)) ≡ only 1
   pub p4_meets : meets_or_refusal (at n0 n0) (at n1 n1) (x n0 to n¼ y n¾ to n1) ≡ record { number = 0; yes = false }
   -- b.y is NaN
-  pub p5 : told (clipped (at n0 n0) (at n4 not_anumber) (x n1 to n3 y n0 to n2)) ≡ only 2
+  pub p5 : told (clipped (at n0 n0) (at n4 not_a_number) (x n1 to n3 y n0 to n2)) ≡ only 2
   -- (-2^1023,0)-(2^1023,1), x 0..1, y 0..1
   pub p6 : told (clipped (at -huge n0) (at huge n1) (x n0 to n1 y n0 to n1)) ≡ only 2
   -- a coordinate of 2^500, and of the next float above it: (0,0)-(2^500,0), x 0..1, y 0..1
@@ -148,11 +148,11 @@ pub record Instances : Type 0 where
   pub target_five : walked 400 up 0 5 ≡ record { number = 7; count = 0 }
   pub target_six : walked 400 up 0 6 ≡ record { number = 4; count = 0 }
   -- of W4: a dead sample in the middle parts the trace, and one on a side is in
-  pub stretch_dead : stretched (n0 ∷ n1 ∷ n1 ∷ not_anumber ∷ n2 ∷ n1 ∷ n3 ∷ n½ ∷ []) ≡ record { number = 0; first = 2; count = 2 }
+  pub stretch_dead : stretched (n0 ∷ n1 ∷ n1 ∷ not_a_number ∷ n2 ∷ n1 ∷ n3 ∷ n½ ∷ []) ≡ record { number = 0; first = 2; count = 2 }
   -- the earlier of two that are as long
   pub stretch_equal : stretched (n0 ∷ n1 ∷ n1 ∷ n2 ∷ n2 ∷ n1 ∷ []) ≡ record { number = 0; first = 0; count = 1 }
   -- no clean sample; an odd count of floats
-  pub stretch_none : stretched (n1 ∷ n2 ∷ not_anumber ∷ n1 ∷ []) ≡ record { number = 0; first = 0; count = 0 }
+  pub stretch_none : stretched (n1 ∷ n2 ∷ not_a_number ∷ n1 ∷ []) ≡ record { number = 0; first = 0; count = 0 }
   pub stretch_odd : stretched (n0 ∷ n1 ∷ n1 ∷ []) ≡ record { number = 10; first = 0; count = 0 }
   -- of W6: the boxes, and the float after them; a float less is too few, and nothing is written
   pub pages_built : pages.buffer_after (replicate 26 -n1) hill ≡ hill_boxes (-n1 ∷ [])
@@ -167,5 +167,5 @@ pub record Instances : Type 0 where
   pub page_missed : paged (x n3 to n4 y n0 to n1) (hill_boxes []) ≡ record { number = 1; edge = 0; opened = 1 }
   pub page_beside : paged (x n0 to n¼ y n¾ to n1) (hill_boxes []) ≡ record { number = 1; edge = 0; opened = 5 }
   -- a buffer of NaN opens nothing; one sample has no edge, and no box
-  pub page_nan : paged (x n0 to n4 y n0 to n1) (replicate 25 not_anumber) ≡ record { number = 1; edge = 0; opened = 1 }
+  pub page_nan : paged (x n0 to n4 y n0 to n1) (replicate 25 not_a_number) ≡ record { number = 1; edge = 0; opened = 1 }
   pub page_no_edge : pages.kept_answer (n1 ∷ n1 ∷ []) (x n0 to n4 y n0 to n1) [] ≡ record { number = 1; edge = 0; opened = 0 }

@@ -60,8 +60,8 @@ huge = of_bits binary64 0x7fe0_0000_0000_0000
 abbrev pub -huge : Float
 -huge = of_bits binary64 0xffe0_0000_0000_0000
 
-abbrev pub not_anumber : Float
-not_anumber = of_bits binary64 0x7ff8_0000_0000_0000
+abbrev pub not_a_number : Float
+not_a_number = of_bits binary64 0x7ff8_0000_0000_0000
 
 infix 8 x◌to◌y◌to◌
 -- a window by its sides: x from a to b, y from c to d
