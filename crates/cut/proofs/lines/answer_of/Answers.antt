@@ -1,3 +1,4 @@
+-- `answer_of` is `answer_of`.
 use Rattle.cut.specs.Record.{answer_of}
 use Rattle.cut.proofs.lines.answer_of.Goals as goal
 

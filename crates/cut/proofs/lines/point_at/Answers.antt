@@ -1,3 +1,4 @@
+-- `point_at` is `point_at`.
 use Rattle.cut.specs.Record.{point_at}
 use Rattle.cut.proofs.lines.point_at.Goals as goal
 
