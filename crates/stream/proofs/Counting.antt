@@ -1,5 +1,5 @@
 -- Counting line ends: those passed and those still to come are all.
-use Rattle.std.proofs.Common.{◌≡◌, ℕ, suc, ◌+◌, ◌<◌, ◌≤◌, eqb, List, length, get_or, drop, refl, ap, ◌∙◌, add-one, arith, drop_of_length-le, drop-cons}
+use Rattle.std.proofs.Common.{◌≡◌, ℕ, ◌+◌, ◌<◌, ◌≤◌, eqb, List, length, get_or, drop, refl, ap, add-one, arith, drop_of_length-le, drop-cons}
 use Rattle.float.specs.Choice.{when◌then◌else◌}
 use Rattle.float.proofs.Choice.{when_eq, when_ne}
 use Rattle.buffer.specs.Text.{line_ends}

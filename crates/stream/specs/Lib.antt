@@ -1,2 +1,3 @@
--- How a program's run goes, and how it ends.
+-- How the programs read and write, how a program's run goes, and how it ends.
+pub mod Counts
 pub mod Run

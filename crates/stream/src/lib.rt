@@ -1,18 +1,17 @@
-// How the programs read, write and end. Over the C library's read and write: a failure is told from the
+// How the programs read, write and end. Over any reader and writer of std: a failure is told from the
 // end of the input, and what was taken from what was not.
 //
-// No contract can say which bytes were read or written; what follows from the counts is under one.
+// No contract can say which bytes the system gave or took; of a reader or a writer whose bytes are known it says
+// which were read or written, and of any other what follows from the counts.
 #![tactic(auto)]
 
-ghost use Rattle.std.specs.Prelude.{◌≡◌, ◌<◌, ◌≤◌};
-ghost use Rattle.io.specs.Counts.{IsPrefixLen};
+ghost use Rattle.std.specs.Prelude.{◌≡◌, ◌<◌, ◌≤◌, false, length, take};
+ghost use Rattle.std.specs.Io.KnownBytes.{Appends, Consumes, IsAtEnd};
+ghost use Rattle.stream.specs.Counts.{IsPrefixLen};
 ghost use Rattle.buffer.specs.Text.{line_ends};
 ghost use Rattle.stream.specs.Run.{answered_of, whole_lines, begun, goes_on, with_block, status_if, status_of, refused_status};
 
-use libc::STDERR_FILENO;
-
-// Where a program gives its status.
-const STATUS_FILENO: i32 = 3;
+use std::io::{Read, Write};
 
 // ---- reading and writing
 
@@ -25,23 +24,28 @@ pub struct Got {
 }
 
 // Reads until buf is full, the input ends or a read fails.
-pub fn read_full(fd: i32, buf: &mut [u8]) -> Got
-    ensures { IsPrefixLen result.bytes buf.new }
+pub fn read_full<R: Read>(input: &mut R, buf: &mut [u8]) -> Got
+    ensures count { IsPrefixLen result.bytes buf.new }
+    ensures bytes { Consumes (R.remaining input.old) (R.remaining input.new) (take result.bytes buf.new) }
+    ensures end { result.failed ≡ false → result.bytes < length buf.new → IsAtEnd (R.remaining input.new) }
 {
     let mut done: usize = 0;
     while done < buf.len() {
-        let got = libc::read(fd, &mut buf[done..]);
-        if got < 0 {
-            return Got {
-                bytes: done,
-                failed: true,
-            };
+        match input.read(&mut buf[done..]) {
+            Ok(0) => {
+                return Got {
+                    bytes: done,
+                    failed: false,
+                };
+            }
+            Ok(more) => done += more,
+            Err(_) => {
+                return Got {
+                    bytes: done,
+                    failed: true,
+                };
+            }
         }
-        let more = io::count(got, &buf[done..]);
-        if more == 0 {
-            break;
-        }
-        done += more;
     }
     Got {
         bytes: done,
@@ -50,16 +54,17 @@ pub fn read_full(fd: i32, buf: &mut [u8]) -> Got
 }
 
 // Writes buf to its end, or until a write fails or takes nothing; how many bytes were taken.
-pub fn write_all(fd: i32, buf: &[u8]) -> usize
-    ensures { IsPrefixLen result buf.now }
+pub fn write_all<W: Write>(output: &mut W, buf: &[u8]) -> usize
+    ensures count { IsPrefixLen result buf.now }
+    ensures bytes { Appends (W.contents output.old) (W.contents output.new) (take result buf.now) }
 {
     let mut done: usize = 0;
     while done < buf.len() {
-        let took = io::count(libc::write(fd, &buf[done..]), &buf[done..]);
-        if took == 0 {
-            break;
+        match output.write(&buf[done..]) {
+            Ok(0) => return done,
+            Ok(took) => done += took,
+            Err(_) => return done,
         }
-        done += took;
     }
     done
 }
@@ -135,50 +140,35 @@ impl Run {
         ensures { result ≡ with_block self records unread unwritten full }
     {
         Run {
-            records: std::num::wrapping_add_u64(self.records, records as u64),
+            records: self.records.wrapping_add(records as u64),
             unread,
             unwritten,
             more: goes_on(unread, unwritten, full),
         }
     }
 
-    // Says on standard error what failed, a line each, and gives the status on descriptor 3, where
-    // whoever started the program can read it: to the system a program of ours always ends with 0.
-    pub fn end(self, program: &[u8]) -> u8
+    // Says what failed, a line each, where the program says such things, and gives the status to end with.
+    pub fn end<W: Write>(self, said: &mut W, program: &[u8]) -> u8
         ensures { result ≡ status_of self }
     {
         if self.unread {
-            say_failed(program, b": reading failed after ", self.records);
+            say_failed(said, program, b": reading failed after ", self.records);
         }
         if self.unwritten {
-            say_failed(program, b": writing failed after ", self.records);
+            say_failed(said, program, b": writing failed after ", self.records);
         }
-        let status = status_of(self.unread, self.unwritten);
-        if status != 0 {
-            give(status);
-        }
-        status
+        status_of(self.unread, self.unwritten)
     }
 }
 
-// Ends a program that is asked for what it does not do, and has said so on standard error: gives the status 2, or 3
-// where that could not be said.
+// The status of a program that is asked for what it does not do, and has said so: 2, or 3 where that could not be said.
 pub fn end_refused(said: bool) -> u8
     ensures { result ≡ refused_status said }
 {
     if said {
-        give(2);
         return 2;
     }
-    give(3);
     3
-}
-
-// A status that is one digit.
-fn give(status: u8)
-    requires { status < 10 }
-{
-    io::write_all(STATUS_FILENO, &[b'0' + status]);
 }
 
 fn goes_on(unread: bool, unwritten: bool, full: bool) -> bool
@@ -205,9 +195,9 @@ fn status_of(unread: bool, unwritten: bool) -> u8
     0
 }
 
-fn say_failed(program: &[u8], what: &[u8], records: u64) {
-    io::write_all(STDERR_FILENO, program);
-    io::write_all(STDERR_FILENO, what);
-    io::print_decimal(STDERR_FILENO, records);
-    io::write_all(STDERR_FILENO, b" whole records\n");
+// Where it cannot be said, there is no one to say that to.
+fn say_failed<W: Write>(said: &mut W, program: &[u8], what: &[u8], records: u64) {
+    let _ = said.write_all(program);
+    let _ = said.write_all(what);
+    let _ = writeln!(said, "{records} whole records");
 }
