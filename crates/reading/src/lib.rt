@@ -11,7 +11,7 @@ use plane::{Interval, Rect};
 // with those before, or 0 with out as it was where there is no room.
 pub fn put_samples(s: &[u8], out: &mut [f64], from: usize) -> usize
     ensures count { result ≡ (when leb (from + floats_in s.now) (length out.old) then from + floats_in s.now else 0) }
-    ensures floats { out.new ≡ (when leb (from + floats_in s.now) (length out.old) then floats_into out.old from (floats_from s.now 0 (floats_in s.now)) else (λ x. x.now) out.entry) }
+    ensures floats { out.new ≡ (when leb (from + floats_in s.now) (length out.old) then floats_into out.old from (floats_from s.now 0 (floats_in s.now)) else out.old) }
     ensures within { result ≤ length out.new }
 {
     let n = s.len() / 16 * 2;
