@@ -3,27 +3,30 @@
 
 mod lines;
 
-use libc::{STDIN_FILENO, STDOUT_FILENO};
+use std::io::{Read, Write};
+use std::process::ExitCode;
 use stream::Run;
 
 // Reads up to 1,024 records and writes their lines.
-fn cut_block(run: Run) -> Run {
-    let mut records = io::large_buffer();
-    let got = stream::read_full(STDIN_FILENO, &mut records);
+fn cut_block<R: Read, W: Write>(input: &mut R, output: &mut W, run: Run) -> Run {
+    let mut records = [0u8; 65536];
+    let got = stream::read_full(input, &mut records);
     let n = got.answered(64);
     let mut text = [0u8; 71682];
     let k = lines::put_text(&records[..n], &mut text);
-    let taken = stream::write_all(STDOUT_FILENO, &text[..k]);
+    let taken = stream::write_all(output, &text[..k]);
     let whole = stream::whole_lines(&text[..k], taken, n / 64);
     run.with(whole, got.failed, taken < k, got.bytes == 65536)
 }
 
-fn main() {
+fn main(rt: HostRuntime) -> ExitCode {
+    let mut input = rt.stdin();
+    let mut output = rt.stdout();
     let mut run = Run::new();
     let mut blocks = u64::MAX;
     while blocks > 0 && run.more {
-        run = cut_block(run);
+        run = cut_block(&mut input, &mut output, run);
         blocks -= 1;
     }
-    run.end(b"cut");
+    ExitCode::from(run.end(&mut rt.stderr(), b"cut"))
 }
