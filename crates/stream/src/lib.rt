@@ -5,6 +5,8 @@
 // which were read or written, and of any other what follows from the counts.
 #![tactic(auto)]
 
+mod watched;
+
 ghost use Rattle.std.specs.Prelude.{◌≡◌, ◌<◌, ◌≤◌, false, length, take};
 ghost use Rattle.std.specs.Io.KnownBytes.{Appends, Consumes, IsAtEnd};
 ghost use Rattle.stream.specs.Counts.{IsPrefixLen};
@@ -12,6 +14,7 @@ ghost use Rattle.buffer.specs.Text.{line_ends};
 ghost use Rattle.stream.specs.Run.{answered_of, whole_lines, begun, goes_on, with_block, status_if, status_of, refused_status};
 
 use std::io::{Read, Write};
+pub use watched::{READER_GONE, Watched, heeds_sigpipe};
 
 // ---- reading and writing
 
