@@ -5,7 +5,7 @@ mod lines;
 
 use std::io::{Read, Write};
 use std::process::ExitCode;
-use stream::Run;
+use stream::{Run, Watched};
 
 // Reads up to 1,024 records and writes their lines.
 fn cut_block<R: Read, W: Write>(input: &mut R, output: &mut W, run: Run) -> Run {
@@ -19,14 +19,31 @@ fn cut_block<R: Read, W: Write>(input: &mut R, output: &mut W, run: Run) -> Run 
     run.with(whole, got.failed, taken < k, got.bytes == 65536)
 }
 
-fn main(rt: HostRuntime) -> ExitCode {
-    let mut input = rt.stdin();
-    let mut output = rt.stdout();
+// The blocks one after the other, to the end of the input or to a failure; the status to end with.
+fn cut_all<R: Read, W: Write, E: Write>(
+    input: &mut R,
+    output: &mut Watched<W>,
+    said: &mut Watched<E>,
+) -> u8 {
     let mut run = Run::new();
     let mut blocks = u64::MAX;
     while blocks > 0 && run.more {
-        run = cut_block(&mut input, &mut output, run);
+        run = cut_block(input, output, run);
         blocks -= 1;
     }
-    ExitCode::from(run.end(&mut rt.stderr(), b"cut"))
+    if output.gone {
+        return stream::READER_GONE;
+    }
+    let status = run.end(said, b"cut");
+    if said.gone {
+        return stream::READER_GONE;
+    }
+    status
+}
+
+fn main(rt: HostRuntime) -> ExitCode {
+    let heeds = stream::heeds_sigpipe(&rt);
+    let mut output = Watched::new(rt.stdout(), heeds);
+    let mut said = Watched::new(rt.stderr(), heeds);
+    ExitCode::from(cut_all(&mut rt.stdin(), &mut output, &mut said))
 }
