@@ -66,10 +66,11 @@ fn is_broken(e: &Error) -> bool
     e.kind() == ErrorKind::BrokenPipe
 }
 
-// Whether a reader that goes away ends the program.
-pub fn heeds_sigpipe<E: Env>(env: &E) -> bool {
+// Whether a reader that goes away ends the program. The host itself is asked, and no `Env` that may be any, so that a
+// program's verdict rests on no more of the system than this call needs.
+pub fn heeds_sigpipe(rt: &HostRuntime) -> bool {
     let mut said = [0u8; 8];
-    match env.var("SIGPIPE", &mut said) {
+    match rt.var("SIGPIPE", &mut said) {
         Ok(n) => said[..n] != b"ignored"[..],
         Err(_) => true,
     }
