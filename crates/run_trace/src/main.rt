@@ -13,9 +13,12 @@ mod words;
 ghost use Rattle.std.specs.Prelude.{◌≡◌};
 ghost use Rattle.run_trace.specs.Pieces.{with_answer};
 
-use libc::{STDERR_FILENO, STDIN_FILENO, STDOUT_FILENO};
 use plane::{Point, Rect};
-use stream::Run;
+use std::env::FillError;
+use std::io::{Read, Write};
+use std::process::ExitCode;
+use std::rt::Env;
+use stream::{Run, Watched};
 use trace::TraceAnswer;
 use words::{Asked, Word};
 
@@ -52,41 +55,47 @@ impl Counts {
         ensures { result ≡ with_answer self a }
     {
         Counts {
-            kept: std::num::wrapping_add_u64(self.kept, a.kept as u64),
-            missed: std::num::wrapping_add_u64(self.missed, a.missed as u64),
-            refused: std::num::wrapping_add_u64(self.refused, a.refused as u64),
+            kept: self.kept.wrapping_add(a.kept as u64),
+            missed: self.missed.wrapping_add(a.missed as u64),
+            refused: self.refused.wrapping_add(a.refused as u64),
         }
     }
 
     // Whether all of the line was written.
-    fn say(self, edges: u64) -> bool {
-        io::write_all(STDERR_FILENO, b"trace: ")
-            & io::print_decimal(STDERR_FILENO, self.kept)
-            & io::write_all(STDERR_FILENO, b" kept, ")
-            & io::print_decimal(STDERR_FILENO, self.missed)
-            & io::write_all(STDERR_FILENO, b" missed, ")
-            & io::print_decimal(STDERR_FILENO, self.refused)
-            & io::write_all(STDERR_FILENO, b" refused, ")
-            & io::print_decimal(STDERR_FILENO, edges)
-            & io::write_all(STDERR_FILENO, b" edges\n")
+    fn say<E: Write>(self, said: &mut E, edges: u64) -> bool {
+        let Counts {
+            kept,
+            missed,
+            refused,
+        } = self;
+        writeln!(
+            said,
+            "trace: {kept} kept, {missed} missed, {refused} refused, {edges} edges"
+        )
+        .is_ok()
     }
 }
 
-fn say_torn(bytes: usize) -> bool {
+fn say_torn<E: Write>(said: &mut E, bytes: usize) -> bool {
     if bytes == 0 {
         return true;
     }
-    io::write_all(STDERR_FILENO, b"trace: the last sample is torn: ")
-        & io::print_decimal(STDERR_FILENO, bytes as u64)
-        & io::write_all(STDERR_FILENO, b" of 16 bytes\n")
+    writeln!(said, "trace: the last sample is torn: {bytes} of 16 bytes").is_ok()
 }
 
 // Reads up to 4,095 samples and writes the records of their edges.
-fn next_piece(touches: bool, window: Rect, whose: u32, before: Progress) -> Progress {
+fn next_piece<R: Read, W: Write>(
+    input: &mut R,
+    output: &mut W,
+    touches: bool,
+    window: Rect,
+    whose: u32,
+    before: Progress,
+) -> Progress {
     let carried = before.carried;
     let sample = before.last;
     let mut bytes = [0u8; 65520];
-    let got = stream::read_full(STDIN_FILENO, &mut bytes);
+    let got = stream::read_full(input, &mut bytes);
     let n = got.bytes;
     let mut records = [0u8; 163800];
     let cut = piece::cut_piece(
@@ -99,7 +108,7 @@ fn next_piece(touches: bool, window: Rect, whose: u32, before: Progress) -> Prog
         &mut records,
     );
     let size = cut.answer.edges * 40;
-    let taken = stream::write_all(STDOUT_FILENO, &records[..size]);
+    let taken = stream::write_all(output, &records[..size]);
     let answer = piece::written(
         touches,
         cut.answer,
@@ -123,7 +132,13 @@ fn next_piece(touches: bool, window: Rect, whose: u32, before: Progress) -> Prog
 }
 
 // The pieces one after the other, to the end of the input or to a failure.
-fn cut_all(touches: bool, window: Rect, whose: u32) -> Progress {
+fn cut_all<R: Read, W: Write>(
+    input: &mut R,
+    output: &mut W,
+    touches: bool,
+    window: Rect,
+    whose: u32,
+) -> Progress {
     let mut so_far = Progress {
         carried: false,
         last: Point { x: 0.0, y: 0.0 },
@@ -133,95 +148,117 @@ fn cut_all(touches: bool, window: Rect, whose: u32) -> Progress {
     };
     let mut pieces = u64::MAX;
     while 0 < pieces && so_far.run.more {
-        so_far = next_piece(touches, window, whose, so_far);
+        so_far = next_piece(input, output, touches, window, whose, so_far);
         pieces -= 1;
     }
     so_far
 }
 
 // Says the counts, and a torn end where nothing failed before it.
-fn say_all(at_end: Progress) -> bool {
+fn say_all<E: Write>(said: &mut E, at_end: Progress) -> bool {
     let run = at_end.run;
     let counts = at_end.counts;
     if run.unread | run.unwritten {
-        return counts.say(run.records);
+        return counts.say(said, run.records);
     }
-    say_torn(at_end.torn) & counts.say(run.records)
+    say_torn(said, at_end.torn) & counts.say(said, run.records)
 }
 
-// Ends the run; where not all was said, that is a failure too.
-fn end(run: Run, said: bool) {
-    let whole = run.with(0, run.unread, run.unwritten | !said, false);
-    whole.end(b"trace");
+// Ends the run; where not all was said, that is a failure too. The status to end with.
+fn end<E: Write>(said: &mut E, run: Run, is_said: bool) -> u8 {
+    let whole = run.with(0, run.unread, run.unwritten | !is_said, false);
+    whole.end(said, b"trace")
 }
 
-// The records of the trace of this number, of what is on standard input.
-fn run(touches: bool, whose: u32) {
+// The records of the trace of this number, of what is on standard input; the status to end with.
+fn run<R: Read, W: Write, E: Write>(
+    input: &mut R,
+    output: &mut Watched<W>,
+    said: &mut E,
+    touches: bool,
+    whose: u32,
+) -> u8 {
     let mut head = [0u8; 32];
-    let got = stream::read_full(STDIN_FILENO, &mut head);
+    let got = stream::read_full(input, &mut head);
     let begun = Run::new().with(0, got.failed, false, false);
     if got.failed {
-        end(begun, true);
-        return;
+        return end(said, begun, true);
     }
     if got.bytes < 32 {
-        end(
-            begun,
-            io::write_all(
-                STDERR_FILENO,
-                b"trace: there is no window: the input has under 32 bytes\n",
-            ),
-        );
-        return;
+        let is_said = said
+            .write_all(b"trace: there is no window: the input has under 32 bytes\n")
+            .is_ok();
+        return end(said, begun, is_said);
     }
     let window = reading::window_of(&head);
     if !clip::refuse::window_fine(window) {
-        end(
-            begun,
-            io::write_all(
-                STDERR_FILENO,
-                b"trace: bad window: a side is not finite or beyond 2^500, or lo > hi\n",
-            ),
-        );
-        return;
+        let is_said = said
+            .write_all(b"trace: bad window: a side is not finite or beyond 2^500, or lo > hi\n")
+            .is_ok();
+        return end(said, begun, is_said);
     }
-    let at_end = cut_all(touches, window, whose);
-    end(at_end.run, say_all(at_end));
+    let at_end = cut_all(input, output, touches, window, whose);
+    if output.gone {
+        return stream::READER_GONE;
+    }
+    let is_said = say_all(said, at_end);
+    end(said, at_end.run, is_said)
 }
 
-// A word. One that does not fit here is none that there is, and comes with the length 0.
-fn word_at(place: usize) -> Word {
+// The word at a place, if there is one. One that does not fit here is none that there may be.
+fn word_at(rt: &HostRuntime, place: usize) -> Option<Word> {
     let mut word = [0u8; 16];
-    let n = os::arg(place, &mut word);
-    words::word_of(&word[..n])
+    match rt.arg(place, &mut word) {
+        Ok(n) => Some(words::word_of(&word[..n])),
+        Err(FillError::TooLong) => Some(Word::Other),
+        Err(FillError::NotPresent) => None,
+    }
 }
 
 // What the words ask for; trace 0, without touches, where there is none.
-fn asked() -> Asked {
-    let count = os::arg_count();
-    if count < 2 {
+fn asked(rt: &HostRuntime) -> Asked {
+    let Some(one) = word_at(rt, 1) else {
         return Asked::Records(0, false);
+    };
+    let Some(other) = word_at(rt, 2) else {
+        return words::of_one(one);
+    };
+    match word_at(rt, 3) {
+        Some(_) => Asked::Nothing,
+        None => words::of_two(one, other),
     }
-    if count == 2 {
-        return words::of_one(word_at(1));
-    }
-    if count == 3 {
-        return words::of_two(word_at(1), word_at(2));
-    }
-    Asked::Nothing
 }
 
-// Says what the words may be, and ends.
-fn refuse() {
-    stream::end_refused(io::write_all(
-        STDERR_FILENO,
-        b"trace: the words may be a trace number, up to 4294967295 in ten digits at the most, and touches, in either order\n",
-    ));
+// Says what the words may be; the status to end with.
+fn refuse<E: Write>(said: &mut E) -> u8 {
+    let is_said = said
+        .write_all(
+            b"trace: the words may be a trace number, up to 4294967295 in ten digits at the most, and touches, in either order\n",
+        )
+        .is_ok();
+    stream::end_refused(is_said)
 }
 
-fn main() {
-    match asked() {
-        Asked::Records(whose, touches) => run(touches, whose),
-        Asked::Nothing => refuse(),
+// What the words ask for, done; the status to end with.
+fn answer<R: Read, W: Write, E: Write>(
+    input: &mut R,
+    output: &mut Watched<W>,
+    said: &mut Watched<E>,
+    asked: Asked,
+) -> u8 {
+    let status = match asked {
+        Asked::Records(whose, touches) => run(input, output, said, touches, whose),
+        Asked::Nothing => refuse(said),
+    };
+    if said.gone {
+        return stream::READER_GONE;
     }
+    status
+}
+
+fn main(rt: HostRuntime) -> ExitCode {
+    let heeds = stream::heeds_sigpipe(&rt);
+    let mut output = Watched::new(rt.stdout(), heeds);
+    let mut said = Watched::new(rt.stderr(), heeds);
+    ExitCode::from(answer(&mut rt.stdin(), &mut output, &mut said, asked(&rt)))
 }
