@@ -10,71 +10,99 @@ mod find;
 mod line;
 
 use answer::TORN;
-use libc::{STDERR_FILENO, STDIN_FILENO, STDOUT_FILENO};
 use plane::Rect;
-use stream::Run;
+use std::io::{Read, Write};
+use std::process::ExitCode;
+use stream::{Run, Watched};
 use stretch::StretchAnswer;
 
-fn say_torn(bytes: usize) -> bool {
+fn say_torn<E: Write>(said: &mut E, bytes: usize) -> bool {
     if bytes == 0 {
         return true;
     }
-    io::write_all(STDERR_FILENO, b"stretch: the last sample is torn: ")
-        & io::print_decimal(STDERR_FILENO, bytes as u64)
-        & io::write_all(STDERR_FILENO, b" of 16 bytes\n")
+    writeln!(
+        said,
+        "stretch: the last sample is torn: {bytes} of 16 bytes"
+    )
+    .is_ok()
 }
 
 // Writes the line of an answer.
-fn write_line(run: Run, answer: StretchAnswer) -> Run {
+fn write_line<W: Write>(output: &mut W, run: Run, answer: StretchAnswer) -> Run {
     let mut text = [0u8; 63];
     let n = line::put_line(&mut text, answer);
-    let taken = stream::write_all(STDOUT_FILENO, &text[..n]);
+    let taken = stream::write_all(output, &text[..n]);
     let whole = stream::whole_lines(&text[..n], taken, 1);
     run.with(whole, false, taken < n, false)
 }
 
-// Ends the run; where not all was said, that is a failure too.
-fn end(run: Run, said: bool) {
-    let whole = run.with(0, run.unread, run.unwritten | !said, false);
-    whole.end(b"stretch");
+// Ends the run; where not all was said, that is a failure too. The status to end with.
+fn end<E: Write>(said: &mut E, run: Run, is_said: bool) -> u8 {
+    let whole = run.with(0, run.unread, run.unwritten | !is_said, false);
+    whole.end(said, b"stretch")
 }
 
 // Reads the samples and writes their line; none where a read fails, since of a part of the trace it would
-// mislead.
-fn answer_all(begun: Run, window: Rect) {
+// mislead. The status to end with.
+fn answer_all<R: Read, W: Write, E: Write>(
+    input: &mut R,
+    output: &mut Watched<W>,
+    said: &mut E,
+    begun: Run,
+    window: Rect,
+) -> u8 {
     let mut bytes = [0u8; 65552];
-    let got = stream::read_full(STDIN_FILENO, &mut bytes);
+    let got = stream::read_full(input, &mut bytes);
     if got.failed {
-        end(begun.with(0, true, false, false), true);
-        return;
+        return end(said, begun.with(0, true, false, false), true);
     }
     let n = got.bytes;
-    let run = write_line(begun, find::answer_of(&bytes[..n], window));
-    end(run, say_torn(n % 16));
+    let run = write_line(output, begun, find::answer_of(&bytes[..n], window));
+    if output.gone {
+        return stream::READER_GONE;
+    }
+    let is_said = say_torn(said, n % 16);
+    end(said, run, is_said)
 }
 
-fn main() {
+// The line where there is no window; the status to end with.
+fn answer_none<W: Write, E: Write>(output: &mut Watched<W>, said: &mut E, begun: Run) -> u8 {
+    let none = StretchAnswer {
+        number: TORN,
+        first: 0,
+        count: 0,
+    };
+    let run = write_line(output, begun, none);
+    if output.gone {
+        return stream::READER_GONE;
+    }
+    let is_said = said
+        .write_all(b"stretch: there is no window: the input has under 32 bytes\n")
+        .is_ok();
+    end(said, run, is_said)
+}
+
+// The line of the trace on standard input; the status to end with.
+fn run<R: Read, W: Write, E: Write>(input: &mut R, output: &mut Watched<W>, said: &mut E) -> u8 {
     let mut head = [0u8; 32];
-    let got = stream::read_full(STDIN_FILENO, &mut head);
+    let got = stream::read_full(input, &mut head);
     let begun = Run::new().with(0, got.failed, false, false);
     if got.failed {
-        end(begun, true);
-        return;
+        return end(said, begun, true);
     }
     if got.bytes < 32 {
-        let none = StretchAnswer {
-            number: TORN,
-            first: 0,
-            count: 0,
-        };
-        end(
-            write_line(begun, none),
-            io::write_all(
-                STDERR_FILENO,
-                b"stretch: there is no window: the input has under 32 bytes\n",
-            ),
-        );
-        return;
+        return answer_none(output, said, begun);
     }
-    answer_all(begun, reading::window_of(&head));
+    answer_all(input, output, said, begun, reading::window_of(&head))
+}
+
+fn main(rt: HostRuntime) -> ExitCode {
+    let heeds = stream::heeds_sigpipe(&rt);
+    let mut output = Watched::new(rt.stdout(), heeds);
+    let mut said = Watched::new(rt.stderr(), heeds);
+    let status = run(&mut rt.stdin(), &mut output, &mut said);
+    if said.gone {
+        return ExitCode::from(stream::READER_GONE);
+    }
+    ExitCode::from(status)
 }
