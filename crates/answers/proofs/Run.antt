@@ -31,6 +31,7 @@ length_groups ws i (suc k) = omega (arith, length-append (group (get_or ws i 0))
 
 groups_step : (ws : List ℕ) (i k : ℕ) → 0 < k → groups_from ws i k ≡ group (get_or ws i 0) ++ groups_from ws (i + 1) (k - 1)
 unfolding groups_from
+groups_step ws i zero h = elim h [ ]
 groups_step ws i (suc k) h = let e : suc k - 1 ≡ k = omega arith in rw e
 
 pub groups_start : (ws xs : List ℕ) (n to : ℕ) → stored xs (to + 17 * 0) (groups_from ws 0 (n - 0)) ≡ stored xs to (groups_from ws 0 n)

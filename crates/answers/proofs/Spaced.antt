@@ -31,6 +31,7 @@ length_bytes bs i (suc k) = omega (arith, length_bytes bs (i + 1) k)
 
 bytes_step : (bs : List ℕ) (i k : ℕ) → 0 < k → bytes_from bs i k ≡ two_digits (get_or bs i 0) ++ bytes_from bs (i + 1) (k - 1)
 unfolding bytes_from
+bytes_step bs i zero h = elim h [ ]
 bytes_step bs i (suc k) h = let e : suc k - 1 ≡ k = omega arith in rw e
 
 -- one more byte of those that are left at i

@@ -1,0 +1,5 @@
+-- `yes_at` is `yes_at`.
+use Rattle.answers.proofs.request.yes_at.Goals as goal
+
+pub returns : goal.returns
+returns c = rw (← c.word.ensures)
