@@ -20,7 +20,7 @@ use Rattle.stretch.specs.Answers.{stretch_of}
 use Rattle.stretch.specs.declared.StretchAnswer.{StretchAnswer}
 use Rattle.pages.specs.Answers as pages
 use Rattle.pages.specs.declared.KeptAnswer.{KeptAnswer}
-use Rattle.instances.specs.Numbers.{n0, -n0, -n1, tiny, n2+, n¼, n½, n¾, n1, n1½, n2, n3, n4, most, most+, huge, -huge, not_anumber, x◌to◌y◌to◌}
+use Rattle.instances.specs.Numbers.{n0, -n1, tiny, n2+, n¼, n½, n¾, n1, n1½, n2, n3, n4, most, most+, huge, -huge, not_anumber, x◌to◌y◌to◌}
 
 -- an edge's answer: its number, and the kept points or zeros
 abbrev pub told : Clipped → ℕ × Segment

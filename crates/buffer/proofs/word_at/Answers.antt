@@ -1,4 +1,3 @@
--- `word_at` is `word_at`.
 use Rattle.std.proofs.Common.{arith}
 use Rattle.buffer.proofs.Words.{word_whole, word_not, word_none, word_down, bound_down, bound_room}
 use Rattle.buffer.proofs.word_at.Goals as goal

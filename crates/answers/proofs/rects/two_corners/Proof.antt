@@ -1,4 +1,3 @@
--- `two_corners` is `two_corners`.
 use borrow.Author.Rules.{rules}
 use Rattle.answers.specs.Table.{two_corners}
 use Rattle.answers.proofs.rects.two_corners.Statement.{statement}

@@ -1,4 +1,3 @@
--- `float_at` is `float_at`.
 use Rattle.answers.specs.Request.{float_at}
 use borrow.Author.Rules.{rules}
 use Rattle.answers.proofs.request.float_at.Statement.{statement}

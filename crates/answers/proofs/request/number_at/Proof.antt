@@ -1,4 +1,3 @@
--- `number_at` is `number_at`.
 use borrow.Author.Rules.{rules}
 use borrow.Author.Tests.{le-leb, lt-leb}
 use native.Mathlib.Omega.{arith}

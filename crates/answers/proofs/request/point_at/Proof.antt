@@ -1,4 +1,3 @@
--- `point_at` is `point_at`.
 use Rattle.answers.specs.Request.{point_at}
 use borrow.Author.Rules.{rules}
 use Rattle.answers.proofs.request.point_at.Statement.{statement}

@@ -1,4 +1,3 @@
--- `rect_at` is `rect_at`.
 use Rattle.answers.specs.Request.{rect_at}
 use borrow.Author.Rules.{rules}
 use Rattle.answers.proofs.request.rect_at.Statement.{statement}

@@ -1,4 +1,3 @@
--- `vector_at` is `vector_at`.
 use Rattle.answers.specs.Request.{vector_at}
 use borrow.Author.Rules.{rules}
 use Rattle.answers.proofs.request.vector_at.Statement.{statement}

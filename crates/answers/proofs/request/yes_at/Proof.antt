@@ -1,4 +1,3 @@
--- `yes_at` is `yesAt`.
 use borrow.Author.Rules.{rules}
 use Rattle.answers.proofs.request.yes_at.Statement.{statement}
 use Rattle.answers.proofs.request.yes_at.Tie as tie

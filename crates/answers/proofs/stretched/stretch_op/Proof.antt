@@ -1,4 +1,3 @@
--- `stretch_op` is `stretch_op`.
 use borrow.Author.Rules.{rules}
 use Rattle.float.proofs.Choice.{when_eq, when_ne}
 use Rattle.answers.specs.Table.{stretch_op}

@@ -1,4 +1,4 @@
--- `clip_bound_axis` is `axisCut`: the two sides of an axis.
+-- `clip_bound_axis` is `axis_cut`: the two sides of an axis.
 use mathlib.Core.Path.{◌∙◌}
 use Rattle.clip.proofs.Turns.{one_axis, axis_inside, axis_outside}
 use Rattle.clip.proofs.compute.clip_bound_axis.Goals as goal

@@ -1,4 +1,4 @@
--- `from_end` is `fromEnd`, operation by operation.
+-- Operation by operation.
 use mathlib.Core.Path.{refl}
 use Rattle.clip.proofs.compute.from_end.Goals as goal
 

@@ -1,4 +1,4 @@
--- `update_endpoint` is `movedEnd`: the end that it is.
+-- `update_endpoint` is `moved_end`: the end that it is.
 use Rattle.clip.proofs.compute.update_endpoint.Goals as goal
 
 pub returns-then-high_endpoint : goal.returns-then-high_endpoint

@@ -1,4 +1,4 @@
--- `update_own` is `ownMoved`: the end that it is.
+-- `update_own` is `own_moved`: the end that it is.
 use Rattle.clip.proofs.compute.update_own.Goals as goal
 
 pub returns-then-high_endpoint : goal.returns-then-high_endpoint

@@ -1,4 +1,4 @@
--- `edge` is `edgeRefusal`: told at once, or in order.
+-- `edge` is `edge_refusal`: told at once, or in order.
 use mathlib.Core.Path.{sym}
 use Rattle.clip.proofs.refuse.edge.Goals as goal
 

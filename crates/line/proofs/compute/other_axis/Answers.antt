@@ -1,4 +1,4 @@
--- `other_axis` is `otherAxis`: a case for each axis.
+-- A case for each axis.
 use Rattle.line.proofs.Cases.{on_u, on_v}
 use mathlib.Core.Path.{refl}
 use Rattle.line.proofs.compute.other_axis.Goals as goal

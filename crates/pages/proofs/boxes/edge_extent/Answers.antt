@@ -1,4 +1,4 @@
--- `edge_extent` is `edgeExtent` of the edge's two samples.
+-- Of the edge's two samples.
 use Rattle.pages.proofs.Filling.{live_extent, dead_extent}
 use Rattle.pages.proofs.boxes.edge_extent.Goals as goal
 

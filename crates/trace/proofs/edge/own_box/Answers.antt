@@ -1,4 +1,4 @@
--- `own_box` is `boxOf`: axis by axis, from what its calls give.
+-- `own_box` is `box_of`: axis by axis, from what its calls give.
 use Rattle.trace.proofs.edge.own_box.Goals as goal
 
 pub returns : goal.returns

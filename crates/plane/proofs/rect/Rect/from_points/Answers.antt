@@ -1,4 +1,4 @@
--- `Rect::from_points` is `boxOf`: axis by axis, from what its calls give.
+-- `Rect::from_points` is `box_of`: axis by axis, from what its calls give.
 use Rattle.plane.proofs.rect.Rect.from_points.Goals as goal
 
 pub returns : goal.returns

@@ -1,4 +1,4 @@
--- `Rect::intersection` is `intersectionRect`: axis by axis, from what its calls give.
+-- `Rect::intersection` is `intersection_rect`: axis by axis, from what its calls give.
 use Rattle.plane.proofs.rect.Rect.intersection.Goals as goal
 
 pub returns : goal.returns

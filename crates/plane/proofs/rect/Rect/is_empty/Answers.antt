@@ -1,4 +1,4 @@
--- `Rect::is_empty` is `isEmptyRect`: x is asked, and y is not.
+-- `Rect::is_empty` is `is_empty_rect`: x is asked, and y is not.
 use Rattle.plane.proofs.rect.Rect.is_empty.Goals as goal
 
 pub returns : goal.returns

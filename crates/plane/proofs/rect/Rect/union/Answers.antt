@@ -1,4 +1,4 @@
--- `Rect::union` is `unionRect`: axis by axis, from what its calls give.
+-- `Rect::union` is `union_rect`: axis by axis, from what its calls give.
 use Rattle.plane.proofs.rect.Rect.union.Goals as goal
 
 pub returns : goal.returns

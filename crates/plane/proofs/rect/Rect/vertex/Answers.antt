@@ -1,4 +1,4 @@
--- `Rect::vertex` is `cornerOf`: axis by axis, from what its calls give.
+-- `Rect::vertex` is `corner_of`: axis by axis, from what its calls give.
 use Rattle.plane.proofs.rect.Rect.vertex.Goals as goal
 
 pub returns : goal.returns
