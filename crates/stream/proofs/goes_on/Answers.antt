@@ -1,4 +1,3 @@
--- `goes_on` is `goes_on`.
 use Rattle.std.proofs.Common.{rules}
 use Rattle.float.proofs.Choice.{branches}
 use Rattle.stream.specs.Run.{goes_on}

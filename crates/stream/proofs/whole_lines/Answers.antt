@@ -1,4 +1,3 @@
--- `whole_lines` is `whole_lines`.
 use Rattle.std.proofs.Common.{refl, arith, length-take}
 use Rattle.float.proofs.Choice.{when_le, when_gt}
 use Rattle.stream.specs.Run.{whole_lines}

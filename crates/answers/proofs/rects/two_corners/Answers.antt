@@ -1,4 +1,3 @@
--- `two_corners` is `two_corners`.
 use Rattle.answers.specs.Table.{two_corners}
 use Rattle.answers.proofs.rects.two_corners.Goals as goal
 

@@ -1,4 +1,3 @@
--- `axis_word` is `axis_word`.
 use Rattle.answers.specs.Reply.{axis_word}
 use Rattle.line.specs.Line.{by_axis}
 use borrow.Author.Rules.{rules}

@@ -1,4 +1,4 @@
--- `of_clipped` is `clippedReply`: a case for each kind.
+-- `of_clipped` is `clipped_reply`: a case for each kind.
 use Rattle.answers.proofs.Cases.{reply_kept, reply_missed, reply_refused}
 use mathlib.Core.Path.{◌∙◌}
 use Rattle.answers.proofs.reply.of_clipped.Goals as goal

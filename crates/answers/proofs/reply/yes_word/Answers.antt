@@ -1,4 +1,3 @@
--- `yes_word` is `yes_word`.
 use borrow.Author.Rules.{rules}
 use Rattle.float.proofs.Choice.{branches}
 use Rattle.answers.specs.Reply.{yes_word}

@@ -1,4 +1,3 @@
--- `float_at` is `float_at`.
 use Rattle.answers.specs.Request.{float_at}
 use Rattle.answers.proofs.request.float_at.Goals as goal
 

@@ -1,4 +1,3 @@
--- `floats_at` is `floats_at`.
 use Rattle.answers.specs.Request.{floats_at}
 use mathlib.Core.Path.{refl, ap₂}
 use mathlib.Core.List.{◌∷◌}

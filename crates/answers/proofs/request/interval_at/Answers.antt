@@ -1,4 +1,3 @@
--- `interval_at` is `interval_at`.
 use Rattle.answers.specs.Request.{interval_at}
 use Rattle.answers.proofs.request.interval_at.Goals as goal
 

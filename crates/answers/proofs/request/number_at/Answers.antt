@@ -1,4 +1,3 @@
--- `number_at` is `number_at`.
 use borrow.Author.Tests.{le-leb, lt-leb}
 use native.Mathlib.Omega.{arith}
 use Rattle.answers.specs.Request.{number_at}

@@ -1,4 +1,3 @@
--- `point_at` is `point_at`.
 use Rattle.answers.specs.Request.{point_at}
 use Rattle.answers.proofs.request.point_at.Goals as goal
 

@@ -1,4 +1,3 @@
--- `rect_at` is `rect_at`.
 use Rattle.answers.specs.Request.{rect_at}
 use Rattle.answers.proofs.request.rect_at.Goals as goal
 

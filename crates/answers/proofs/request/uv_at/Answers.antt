@@ -1,4 +1,3 @@
--- `uv_at` is `uv_at`.
 use Rattle.answers.specs.Request.{uv_at}
 use Rattle.answers.proofs.request.uv_at.Goals as goal
 

@@ -1,4 +1,3 @@
--- `vector_at` is `vector_at`.
 use Rattle.answers.specs.Request.{vector_at}
 use Rattle.answers.proofs.request.vector_at.Goals as goal
 

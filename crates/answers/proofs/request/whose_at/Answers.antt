@@ -1,4 +1,3 @@
--- `whose_at` is `whose_at`.
 use mathlib.Core.Path.{ap}
 use Prim.Native.Nat.{◌%◌, ◌^◌}
 use Rattle.answers.specs.Request.{whose_at}

@@ -1,4 +1,3 @@
--- `word_up_to` is `word_up_to`.
 use borrow.Author.Tests.{le-leb, lt-leb}
 use native.Mathlib.Omega.{arith}
 use Rattle.answers.specs.Request.{word_up_to}

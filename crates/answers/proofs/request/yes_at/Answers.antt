@@ -1,4 +1,3 @@
--- `yes_at` is `yes_at`.
 use Rattle.answers.proofs.request.yes_at.Goals as goal
 
 pub returns : goal.returns

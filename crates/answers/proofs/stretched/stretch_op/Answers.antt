@@ -1,4 +1,3 @@
--- `stretch_op` is `stretch_op`.
 use Rattle.float.proofs.Choice.{when_eq, when_ne}
 use Rattle.answers.specs.Table.{stretch_op}
 use Rattle.answers.proofs.stretched.stretch_op.Goals as goal

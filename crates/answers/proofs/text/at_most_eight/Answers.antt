@@ -1,4 +1,3 @@
--- `at_most_eight` is `at_most_eight`.
 use borrow.Author.Tests.{le-leb, lt-leb}
 use native.Mathlib.Omega.{arith}
 use Rattle.answers.specs.Line.{at_most_eight}

@@ -1,4 +1,3 @@
--- `answer_of` is `answer_of`.
 use Rattle.cut.specs.Record.{answer_of}
 use Rattle.cut.proofs.lines.answer_of.Goals as goal
 

@@ -1,4 +1,3 @@
--- `point_at` is `point_at`.
 use Rattle.cut.specs.Record.{point_at}
 use Rattle.cut.proofs.lines.point_at.Goals as goal
 

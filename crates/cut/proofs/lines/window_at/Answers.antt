@@ -1,4 +1,3 @@
--- `window_at` is `window_at`.
 use Rattle.cut.specs.Record.{window_at}
 use Rattle.cut.proofs.lines.window_at.Goals as goal
 

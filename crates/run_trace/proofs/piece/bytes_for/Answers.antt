@@ -1,4 +1,3 @@
--- `bytes_for` is `bytes_for`.
 use Rattle.float.proofs.Choice.{branches, denies}
 use Rattle.run_trace.specs.Pieces.{bytes_for}
 use Rattle.std.proofs.Common.{rules}

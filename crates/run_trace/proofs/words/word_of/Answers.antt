@@ -1,4 +1,3 @@
--- `word_of` is `word_of`.
 use Rattle.std.proofs.Common.{sym, refl, ◌∙◌}
 use Rattle.float.proofs.Choice.{then_is, else_is}
 use Rattle.run_trace.specs.Words.{word_of}
