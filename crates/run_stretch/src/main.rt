@@ -97,9 +97,8 @@ fn run<R: Read, W: Write, E: Write>(input: &mut R, output: &mut Watched<W>, said
 }
 
 fn main(rt: HostRuntime) -> ExitCode {
-    let heeds = stream::heeds_sigpipe(&rt);
-    let mut output = Watched::new(rt.stdout(), heeds);
-    let mut said = Watched::new(rt.stderr(), heeds);
+    let mut output = Watched::told(rt.stdout(), &rt);
+    let mut said = Watched::told(rt.stderr(), &rt);
     let status = run(&mut rt.stdin(), &mut output, &mut said);
     if said.gone {
         return ExitCode::from(stream::READER_GONE);

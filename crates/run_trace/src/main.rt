@@ -257,8 +257,7 @@ fn answer<R: Read, W: Write, E: Write>(
 }
 
 fn main(rt: HostRuntime) -> ExitCode {
-    let heeds = stream::heeds_sigpipe(&rt);
-    let mut output = Watched::new(rt.stdout(), heeds);
-    let mut said = Watched::new(rt.stderr(), heeds);
+    let mut output = Watched::told(rt.stdout(), &rt);
+    let mut said = Watched::told(rt.stderr(), &rt);
     ExitCode::from(answer(&mut rt.stdin(), &mut output, &mut said, asked(&rt)))
 }

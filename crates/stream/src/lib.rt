@@ -14,7 +14,7 @@ ghost use Rattle.buffer.specs.Text.{line_ends};
 ghost use Rattle.stream.specs.Run.{answered_of, whole_lines, begun, goes_on, with_block, status_if, status_of, refused_status};
 
 use std::io::{Read, Write};
-pub use watched::{READER_GONE, Watched, heeds_sigpipe};
+pub use watched::{READER_GONE, Watched};
 
 // ---- reading and writing
 

@@ -33,6 +33,14 @@ impl<W: Write> Watched<W> {
             gone: false,
         }
     }
+
+    // It is noted unless the host's variable says that the signal is to be ignored.
+    pub fn told(to: W, rt: &HostRuntime) -> Self
+        ensures to { result.to ≡ to }
+        ensures gone { result.gone ≡ false }
+    {
+        Watched::new(to, heeds_sigpipe(rt))
+    }
 }
 
 impl<W: Write> Write for Watched<W> {
@@ -68,7 +76,7 @@ fn is_broken(e: &Error) -> bool
 
 // Whether a reader that goes away ends the program. The host itself is asked, and no `Env` that may be any, so that a
 // program's verdict rests on no more of the system than this call needs.
-pub fn heeds_sigpipe(rt: &HostRuntime) -> bool {
+fn heeds_sigpipe(rt: &HostRuntime) -> bool {
     let mut said = [0u8; 8];
     match rt.var("SIGPIPE", &mut said) {
         Ok(n) => said[..n] != b"ignored"[..],
