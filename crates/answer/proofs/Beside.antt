@@ -1,21 +1,29 @@
--- What stands beside a number that is 0, and beside any other; also where the number is what a call gave, t.
-use mathlib.Core.Path.{◌≡◌, refl, sym, ◌∙◌}
+-- What stands beside the number of an answer: its value beside 0, and zeros beside any other.
 use Prim.Native.Nat.{ℕ}
-use Rattle.float.proofs.Choice.{when_eq, when_ne}
-use Rattle.answer.specs.Answer.{beside}
+use mathlib.Core.Path.{◌≡◌, refl}
+use native.Mathlib.Omega.{arith}
+use Rattle.std.specs.Prelude.{Result, Ok, Err}
+use Rattle.answer.specs.Refusal.{number_of, number, value_or}
+use Rattle.answer.specs.declared.Refusal.{Refusal}
+use Rattle.answer.specs.declared.Refusal.TheVariants.{Missed, NotFinite, BadWindow, BadFace, Zero, OffFace, Unfinished, ShortBuffer, Torn, BadTrace}
 
-module _ {A : Type 0} (n : ℕ) (value zero : A) where
-  pub beside_done : n ≡ 0 → value ≡ beside n value zero
-  unfolding beside
-  beside_done e = when_eq n 0 value value zero e refl
+never_zero : (e : Refusal) → number_of e ≡ 0 → ⊥
+never_zero Missed h = omega arith
+never_zero NotFinite h = omega arith
+never_zero BadWindow h = omega arith
+never_zero BadFace h = omega arith
+never_zero Zero h = omega arith
+never_zero OffFace h = omega arith
+never_zero Unfinished h = omega arith
+never_zero ShortBuffer h = omega arith
+never_zero Torn h = omega arith
+never_zero BadTrace h = omega arith
 
-  pub beside_other : (n ≡ 0 → ⊥) → zero ≡ beside n value zero
-  unfolding beside
-  beside_other e = when_ne n 0 zero value zero e refl
+module _ {A : Type 0} (zero : A) where
+  pub beside_done : (a : Result A Refusal) → number a ≡ 0 → a ≡ Ok (value_or zero a)
+  beside_done (Ok x) h = refl
+  beside_done (Err e) h = absurd (never_zero e h)
 
-module _ {A : Type 0} (t n : ℕ) (w value zero : A) (d : t ≡ n) where
-  pub ask_done : t ≡ 0 → w ≡ value → w ≡ beside n value zero
-  ask_done e h = h ∙ beside_done n value zero (sym d ∙ e)
-
-  pub ask_other : (t ≡ 0 → ⊥) → w ≡ zero → w ≡ beside n value zero
-  ask_other e h = h ∙ beside_other n value zero (λ k. e (d ∙ k))
+  pub beside_other : (a : Result A Refusal) → (number a ≡ 0 → ⊥) → value_or zero a ≡ zero
+  beside_other (Ok x) h = absurd (h refl)
+  beside_other (Err e) h = refl

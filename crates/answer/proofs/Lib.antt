@@ -1,2 +1,2 @@
--- Laws that the proofs of answers cite, here and in the crates above.
+-- What is known of the numbers.
 pub mod Beside

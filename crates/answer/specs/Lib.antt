@@ -1,2 +1,2 @@
--- The numbers given back, and what stands beside one.
-pub mod Answer
+-- Why there is no value, and the number that says so.
+pub mod Refusal

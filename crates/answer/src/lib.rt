@@ -1,81 +1,70 @@
-// The numbers given back, and the answers of one value beside a number.
+// Why there is no value, and the numbers that say so.
 #![tactic(auto)]
 
-ghost use Rattle.std.specs.Prelude.{◌≡◌};
-ghost use Rattle.float.specs.Choice.{◌and◌};
-ghost use Rattle.answer.specs.Answer.{real_answer, yes_no_answer, need_finite};
+ghost use Rattle.std.specs.Prelude.{◌≡◌, ◌<◌, ◌≤◌};
+ghost use Rattle.answer.specs.Refusal.{number_of, number, unless◌refuse◌else◌, done};
 
-// Kept, or done.
-pub const DONE: u8 = 0;
-// A miss of the window; a vector not on the side of the asked face.
-pub const MISSED: u8 = 1;
-// A float other than the window's is not admitted: it is not finite, or where an edge is cut it is beyond 2^500.
-pub const NOT_FINITE: u8 = 2;
-// A window side is not admitted: it is beyond 2^500 or not finite; or lo > hi on either axis.
-pub const BAD_WINDOW: u8 = 3;
-// A face above 5, an axis above 2, a direction above 1.
-pub const BAD_FACE: u8 = 4;
-// A vector or normal all zero, a zero divisor.
-pub const ZERO: u8 = 5;
-// The line does not meet a face that is not the target.
-pub const OFF_FACE: u8 = 6;
-// The target is not among the first 8 faces.
-pub const UNFINISHED: u8 = 7;
-// The buffer holds fewer whole records than the walk or the trace has.
-pub const SHORT_BUFFER: u8 = 8;
-// The program's input ends in part of a record.
-pub const TORN: u8 = 9;
-// A trace of an odd count of floats, or of more than 4,096 samples.
-pub const BAD_TRACE: u8 = 10;
-
-// A float beside the number 0, or zero beside another.
-#[repr(C)]
-#[derive(Clone, Copy)]
-pub struct Real {
-    pub number: u8,
-    pub value: f64,
+// Why there is no value.
+#[derive(Clone, Copy, Debug, PartialEq, Eq, Hash)]
+pub enum Refusal {
+    // A miss of the window; a vector not on the side of the asked face.
+    Missed,
+    // A float other than the window's is not admitted: it is not finite, or where an edge is cut it is beyond 2^500.
+    NotFinite,
+    // A window side is not admitted: it is beyond 2^500 or not finite; or lo > hi on either axis.
+    BadWindow,
+    // A face above 5, an axis above 2, a direction above 1.
+    BadFace,
+    // A vector or normal all zero, a zero divisor.
+    Zero,
+    // The line does not meet a face that is not the target.
+    OffFace,
+    // The target is not among the first 8 faces.
+    Unfinished,
+    // The buffer holds fewer whole records than the walk or the trace has.
+    ShortBuffer,
+    // The program's input ends in part of a record.
+    Torn,
+    // A trace of an odd count of floats, or of more than 4,096 samples.
+    BadTrace,
 }
 
-// Yes or no beside the number 0, or no beside another.
-#[repr(C)]
-#[derive(Clone, Copy)]
-pub struct YesNo {
-    pub number: u8,
-    pub yes: bool,
-}
-
-impl Real {
-    pub fn answer(number: u8, value: f64) -> Self
-        ensures { result ≡ real_answer number value }
+impl Refusal {
+    // Document 01's number.
+    pub fn number(self) -> u8
+        ensures is { result ≡ number_of self }
+        ensures least { 0 < result }
+        ensures most { result ≤ 10 }
     {
-        if number == DONE {
-            return Real { number, value };
+        match self {
+            Refusal::Missed => 1,
+            Refusal::NotFinite => 2,
+            Refusal::BadWindow => 3,
+            Refusal::BadFace => 4,
+            Refusal::Zero => 5,
+            Refusal::OffFace => 6,
+            Refusal::Unfinished => 7,
+            Refusal::ShortBuffer => 8,
+            Refusal::Torn => 9,
+            Refusal::BadTrace => 10,
         }
-        Real { number, value: 0.0 }
     }
 }
 
-impl YesNo {
-    pub fn answer(number: u8, yes: bool) -> Self
-        ensures { result ≡ yes_no_answer number yes }
-    {
-        if number == DONE {
-            return YesNo { number, yes };
-        }
-        YesNo { number, yes: false }
+// The number of an answer: 0 beside a value.
+pub fn number<T: Copy>(answer: Result<T, Refusal>) -> u8
+    ensures is { result ≡ number answer }
+    ensures most { result ≤ 10 }
+{
+    match answer {
+        Ok(_) => 0,
+        Err(refusal) => refusal.number(),
     }
 }
 
-// 2 unless the floats handed in are finite: all that modules 1 to 3 refuse.
-pub fn need_finite(all: bool) -> u8
-    ensures { result ≡ need_finite all }
+// The refusal, unless it holds.
+pub fn need(holds: bool, refusal: Refusal) -> Result<(), Refusal>
+    ensures { result ≡ (unless holds refuse refusal else done) }
 {
-    if all { DONE } else { NOT_FINITE }
-}
-
-// Whether both hold.
-pub fn both(p: bool, q: bool) -> bool
-    ensures { result ≡ (p and q) }
-{
-    if p { q } else { false }
+    if holds { Ok(()) } else { Err(refusal) }
 }

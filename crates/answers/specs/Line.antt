@@ -1,22 +1,16 @@
 -- The lines: the number and, beside 0, a space and 16 lower-case hex digits for each word. A last part under 192 bytes writes 9.
-use Rattle.std.specs.Prelude.{ℕ, true, false, List, [], ◌∷◌, ◌++◌, eqb, leb}
+use Rattle.std.specs.Prelude.{ℕ, true, false, List, [], ◌∷◌, ◌++◌, eqb}
 use Rattle.float.specs.Choice.{when◌then◌else◌}
-use Rattle.answer.specs.Answer.{torn}
+use Rattle.answer.specs.Refusal.{number_of}
+use Rattle.answer.specs.declared.Refusal.TheVariants.{Torn}
 use Rattle.buffer.specs.Text as Text
-use Rattle.answers.specs.declared.reply.Reply.{Reply}
-use Rattle.answers.specs.Number.{number_text, numbered}
+use Rattle.answers.specs.Number.{number_text}
+use Rattle.answers.specs.Reply.{reply_line}
 use Rattle.answers.specs.Request.{word_of}
 use Rattle.answers.specs.Table.{reply_of}
 use Rattle.answers.specs.Walked.{walk_line}
 use Rattle.answers.specs.Traced.{trace_line}
 use Rattle.answers.specs.Paged.{pages_line, first_kept_line}
-
--- eight words at the most
-unfoldable pub at_most_eight : ℕ → ℕ
-at_most_eight n = when leb n 8 then n else 8
-
-unfoldable pub reply_line : Reply → List ℕ
-reply_line r = numbered r.number r.words (at_most_eight r.count) ++ (10 ∷ [])
 
 -- the line of a request: 60, 61, 62, 64 and 65 have their own
 unfoldable pub line_of : List ℕ → List ℕ
@@ -30,7 +24,7 @@ line_of s =
 
 -- 9, for a last part under 192 bytes
 abbrev pub torn_line : List ℕ
-torn_line = number_text torn ++ (10 ∷ [])
+torn_line = number_text (number_of Torn) ++ (10 ∷ [])
 
 abbrev pub text_of : List ℕ → List ℕ
 text_of s = Text.text_of 192 line_of torn_line s

@@ -1,97 +1,104 @@
 -- The reply to a request: a number and, beside 0, words. A float is its bits, a yes/no 1 or 0.
-use Rattle.std.specs.Prelude.{ℕ, Bool, List, [], ◌∷◌, get_or, Float}
-use Rattle.std.specs.Float.{binary64, nan}
-use Rattle.std.specs.Float.Ieee.{to_bits}
-use Rattle.float.specs.Choice.{when◌then◌else◌}
-use Rattle.answer.specs.Answer.{beside}
-use Rattle.answer.specs.declared.Real.{Real}
-use Rattle.answer.specs.declared.YesNo.{YesNo}
+use Rattle.std.specs.Prelude.{ℕ, Bool, List, [], ◌∷◌, Float, Result, Ok, Err, ◌++◌, get_or, if◌then◌else◌}
+use Rattle.std.specs.Float.{nan}
+use Rattle.answer.specs.Refusal.{number, number_of, value_or}
+use Rattle.answer.specs.declared.Refusal.{Refusal}
 use Rattle.plane.specs.Point.{at}
 use Rattle.plane.specs.declared.point.Point.{Point}
-use Rattle.plane.specs.declared.point.PointAnswer.{PointAnswer}
-use Rattle.plane.specs.declared.interval.IntervalAnswer.{IntervalAnswer}
-use Rattle.plane.specs.declared.rect.RectAnswer.{RectAnswer}
-use Rattle.plane.specs.declared.rect.Corners.{Corners}
-use Rattle.clip.specs.declared.Clipped.{Clipped}
-use Rattle.clip.specs.Answers.{number_of, points_of}
-use Rattle.clip.specs.declared.AxesAnswer.{AxesAnswer}
-use Rattle.cube.specs.declared.FaceAnswer.{FaceAnswer}
+use Rattle.plane.specs.declared.interval.Interval.{Interval}
+use Rattle.plane.specs.declared.rect.Rect.{Rect}
+use Rattle.clip.specs.declared.Segment.{Segment}
+use Rattle.clip.specs.declared.compute.Both.{Both}
 use Rattle.cube.specs.declared.FaceUv.{FaceUv}
-use Rattle.cube.specs.declared.UvAnswer.{UvAnswer}
-use Rattle.cube.specs.declared.VectorAnswer.{VectorAnswer}
-use Rattle.line.specs.Line.{by_axis}
+use Rattle.cube.specs.declared.compute.Uv.{Uv}
+use Rattle.cube.specs.declared.vector.Vector.{Vector}
+use Rattle.line.specs.Line.{axis_number}
 use Rattle.line.specs.declared.compute.Axis.{Axis}
-use Rattle.line.specs.declared.AxisAnswer.{AxisAnswer}
-use Rattle.stretch.specs.declared.StretchAnswer.{StretchAnswer}
-use Rattle.answers.specs.declared.reply.Reply.{Reply}
+use Rattle.stretch.specs.declared.Stretch.{Stretch}
+use Rattle.trace.specs.declared.Counts.{Counts}
+use Rattle.answers.specs.Number.{bits, numbered}
 
-abbrev pub bits : Float → ℕ
-bits x = to_bits binary64 x
+pub record Reply : Type 0 where
+  pub number : ℕ
+  pub words : List ℕ
 
--- so many of the words; none beside a number that is not 0
-abbrev pub reply : ℕ → ℕ → List ℕ → Reply
-reply n k ws = record { number = n; count = beside n k 0; words = ws }
+-- the number of an answer, and the words of its value; none beside a refusal
+abbrev pub reply : {A : Type 0} → (A → List ℕ) → Result A Refusal → Reply
+reply words (Ok x) = record { number = 0; words = words x }
+reply words (Err e) = record { number = number_of e; words = [] }
+
+-- the number of an answer whose words stand beside every number, zero's beside a refusal
+abbrev pub reply_or : {A : Type 0} → (A → List ℕ) → Result A Refusal → A → Reply
+reply_or words a zero = record { number = number a; words = words (value_or zero a) }
 
 -- a number alone
-unfoldable pub only_reply : ℕ → Reply
-only_reply n = record { number = n; count = 0; words = 0 ∷ 0 ∷ 0 ∷ 0 ∷ 0 ∷ 0 ∷ 0 ∷ 0 ∷ [] }
+abbrev pub only_reply : ℕ → Reply
+only_reply n = record { number = n; words = [] }
 
-unfoldable pub yes_word : Bool → ℕ
-yes_word b = when b then 1 else 0
+-- the line of a reply
+unfoldable pub reply_line : Reply → List ℕ
+reply_line r = numbered r.number r.words ++ (10 ∷ [])
 
-unfoldable pub axis_word : Axis → ℕ
-axis_word a = by_axis a 0 1
+-- ---- the words of each kind of value
+abbrev pub yes_words : Bool → List ℕ
+yes_words b = (if b then 1 else 0) ∷ []
 
-unfoldable pub yes_no_reply : YesNo → Reply
-yes_no_reply a = reply a.number 1 (yes_word a.yes ∷ 0 ∷ 0 ∷ 0 ∷ 0 ∷ 0 ∷ 0 ∷ 0 ∷ [])
+abbrev pub face_words : ℕ → List ℕ
+face_words f = f ∷ []
 
-unfoldable pub axis_reply : AxisAnswer → Reply
-axis_reply a = reply a.number 1 (axis_word a.axis ∷ 0 ∷ 0 ∷ 0 ∷ 0 ∷ 0 ∷ 0 ∷ 0 ∷ [])
+-- 0 for U, 1 for V
+abbrev pub axis_words : Axis → List ℕ
+axis_words a = axis_number a ∷ []
 
-unfoldable pub points_reply : ℕ → Point → Point → Reply
-points_reply n p q = reply n 4 (bits p.x ∷ bits p.y ∷ bits q.x ∷ bits q.y ∷ 0 ∷ 0 ∷ 0 ∷ 0 ∷ [])
+abbrev pub float_words : Float → List ℕ
+float_words x = bits x ∷ []
 
-unfoldable pub clipped_reply : Clipped → Reply
-clipped_reply c = let s = points_of c in points_reply (number_of c) (at s.ax s.ay) (at s.bx s.by)
+abbrev pub point_words : Point → List ℕ
+point_words p = bits p.x ∷ bits p.y ∷ []
+
+-- two corners
+abbrev pub points_words : Point × Point → List ℕ
+points_words c = point_words c.0 ++ point_words c.1
+
+abbrev pub segment_words : Segment → List ℕ
+segment_words s = bits s.ax ∷ bits s.ay ∷ bits s.bx ∷ bits s.by ∷ []
+
+abbrev pub interval_words : Interval → List ℕ
+interval_words i = bits i.lo ∷ bits i.hi ∷ []
+
+-- the interval of the asked axis, then the other's
+abbrev pub both_words : Both → List ℕ
+both_words b = interval_words b.this ++ interval_words b.other
+
+-- the low corner, then the high one
+abbrev pub rect_words : Rect → List ℕ
+rect_words r = bits r.x.lo ∷ bits r.y.lo ∷ bits r.x.hi ∷ bits r.y.hi ∷ []
 
 -- the corner i of the four
-abbrev pub corner : Corners → ℕ → Point
-corner a i = get_or a.vertices i (at nan nan)
+abbrev pub corner : List Point → ℕ → Point
+corner ps i = get_or ps i (at nan nan)
 
-unfoldable pub four_reply : ℕ → Point → Point → Point → Point → Reply
-four_reply n p q t v =
-    reply n 8 (bits p.x ∷ bits p.y ∷ bits q.x ∷ bits q.y ∷ bits t.x ∷ bits t.y ∷ bits v.x ∷ bits v.y ∷ [])
+-- four corners
+abbrev pub corners_words : List Point → List ℕ
+corners_words ps = point_words (corner ps 0) ++ (point_words (corner ps 1) ++ (point_words (corner ps 2) ++ point_words (corner ps 3)))
 
-unfoldable pub corners_reply : Corners → Reply
-corners_reply a = four_reply a.number (corner a 0) (corner a 1) (corner a 2) (corner a 3)
+abbrev pub uv_words : Uv → List ℕ
+uv_words a = bits a.u ∷ bits a.v ∷ []
 
-unfoldable pub float_reply : Real → Reply
-float_reply a = reply a.number 1 (bits a.value ∷ 0 ∷ 0 ∷ 0 ∷ 0 ∷ 0 ∷ 0 ∷ 0 ∷ [])
+abbrev pub face_uv_words : FaceUv → List ℕ
+face_uv_words a = a.face ∷ uv_words a.at
 
-unfoldable pub point_reply : PointAnswer → Reply
-point_reply a = reply a.number 2 (bits a.point.x ∷ bits a.point.y ∷ 0 ∷ 0 ∷ 0 ∷ 0 ∷ 0 ∷ 0 ∷ [])
+abbrev pub vector_words : Vector → List ℕ
+vector_words r = bits r.x ∷ bits r.y ∷ bits r.z ∷ []
 
-unfoldable pub interval_reply : IntervalAnswer → Reply
-interval_reply a = reply a.number 2 (bits a.interval.lo ∷ bits a.interval.hi ∷ 0 ∷ 0 ∷ 0 ∷ 0 ∷ 0 ∷ 0 ∷ [])
+abbrev pub stretch_words : Stretch → List ℕ
+stretch_words s = s.first ∷ s.count ∷ []
 
-unfoldable pub rect_reply : RectAnswer → Reply
-rect_reply a = reply a.number 4 (bits a.rect.x.lo ∷ bits a.rect.y.lo ∷ bits a.rect.x.hi ∷ bits a.rect.y.hi ∷ 0 ∷ 0 ∷ 0 ∷ 0 ∷ [])
+abbrev pub count_words : ℕ → List ℕ
+count_words n = n ∷ []
 
-unfoldable pub axes_reply : AxesAnswer → Reply
-axes_reply a = reply a.number 4 (bits a.both.this.lo ∷ bits a.both.this.hi ∷ bits a.both.other.lo ∷ bits a.both.other.hi ∷ 0 ∷ 0 ∷ 0 ∷ 0 ∷ [])
+abbrev pub pair_words : ℕ × ℕ → List ℕ
+pair_words p = p.0 ∷ p.1 ∷ []
 
-unfoldable pub face_reply : FaceAnswer → Reply
-face_reply a = reply a.number 1 (a.face ∷ 0 ∷ 0 ∷ 0 ∷ 0 ∷ 0 ∷ 0 ∷ 0 ∷ [])
-
-unfoldable pub face_uv_reply : FaceUv → Reply
-face_uv_reply a = reply a.number 3 (a.face ∷ bits a.u ∷ bits a.v ∷ 0 ∷ 0 ∷ 0 ∷ 0 ∷ 0 ∷ [])
-
-unfoldable pub uv_reply : UvAnswer → Reply
-uv_reply a = reply a.number 2 (bits a.u ∷ bits a.v ∷ 0 ∷ 0 ∷ 0 ∷ 0 ∷ 0 ∷ 0 ∷ [])
-
-unfoldable pub vector_reply : VectorAnswer → Reply
-vector_reply a = reply a.number 3 (bits a.vector.x ∷ bits a.vector.y ∷ bits a.vector.z ∷ 0 ∷ 0 ∷ 0 ∷ 0 ∷ 0 ∷ [])
-
--- the first sample and the count of samples, beside every number
-unfoldable pub stretch_reply : StretchAnswer → Reply
-stretch_reply a = record { number = a.number; count = 2; words = a.first ∷ a.count ∷ 0 ∷ 0 ∷ 0 ∷ 0 ∷ 0 ∷ 0 ∷ [] }
+abbrev pub counts_words : Counts → List ℕ
+counts_words c = c.kept ∷ c.missed ∷ c.refused ∷ c.edges ∷ []

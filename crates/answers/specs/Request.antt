@@ -1,9 +1,9 @@
 -- The arguments of a request, by the place of their first word: 0 is the operation, and each word is 8 bytes, little-endian.
-use Rattle.std.specs.Prelude.{ℕ, ◌+◌, ◌*◌, ◌%◌, ◌^◌, Bool, not, List, [], ◌∷◌, eqb, leb, Float, take}
+use Rattle.std.specs.Prelude.{ℕ, ◌+◌, ◌*◌, ◌%◌, ◌^◌, Bool, not, List, eqb, Float, take, min}
 use Rattle.std.specs.Float.{binary64}
 use Rattle.std.specs.Float.Ieee.{of_bits}
-use Rattle.float.specs.Choice.{when◌then◌else◌}
 use Rattle.buffer.specs.Bytes.{word_at}
+use Rattle.reading.specs.Samples.{floats_from}
 use Rattle.plane.specs.Point.{at}
 use Rattle.plane.specs.Interval.{from◌to◌}
 use Rattle.plane.specs.Rect.{◌by◌}
@@ -14,8 +14,8 @@ use Rattle.cube.specs.Vector.{vec}
 use Rattle.cube.specs.Faces.{uv}
 use Rattle.cube.specs.declared.vector.Vector.{Vector}
 use Rattle.cube.specs.declared.compute.Uv.{Uv}
+use Rattle.line.specs.Line.{axis_of}
 use Rattle.line.specs.declared.compute.Axis.{Axis}
-use Rattle.line.specs.declared.compute.Axis.TheVariants.{U, «V»}
 
 abbrev pub word_of : List ℕ → ℕ → ℕ
 word_of s k = word_at s (8 * k)
@@ -43,22 +43,20 @@ unfoldable pub vector_at : List ℕ → ℕ → Vector
 vector_at s k = vec (float_at s k) (float_at s (k + 1)) (float_at s (k + 2))
 
 -- the sixteen from a place on
-unfoldable pub floats_at : List ℕ → ℕ → List Float
-floats_at s k =
-    float_at s k ∷ float_at s (k + 1) ∷ float_at s (k + 2) ∷ float_at s (k + 3) ∷ float_at s (k + 4) ∷ float_at s (k + 5) ∷ float_at s (k + 6) ∷ float_at s (k + 7)
-    ∷ float_at s (k + 8) ∷ float_at s (k + 9) ∷ float_at s (k + 10) ∷ float_at s (k + 11) ∷ float_at s (k + 12) ∷ float_at s (k + 13) ∷ float_at s (k + 14) ∷ float_at s (k + 15) ∷ []
+abbrev pub floats_at : List ℕ → ℕ → List Float
+floats_at s k = floats_from s k 16
 
 -- the word, or the most where it is larger
-unfoldable pub word_up_to : List ℕ → ℕ → ℕ → ℕ
-word_up_to s k most = when leb (word_of s k) most then word_of s k else most
+abbrev pub word_up_to : List ℕ → ℕ → ℕ → ℕ
+word_up_to s k most = min (word_of s k) most
 
 -- the samples from a place on: as many floats as word 1 asks, 16 at the most
 abbrev pub samples_at : List ℕ → ℕ → List Float
 samples_at s k = take (word_up_to s 1 16) (floats_at s k)
 
 -- a face, axis or direction: 255, above every limit, for a word above it
-unfoldable pub number_at : List ℕ → ℕ → ℕ
-number_at s k = when leb (word_of s k) 255 then word_of s k else 255
+abbrev pub number_at : List ℕ → ℕ → ℕ
+number_at s k = min (word_of s k) 255
 
 -- a trace number: the word modulo 2^32
 unfoldable pub whose_at : List ℕ → ℕ → ℕ
@@ -68,5 +66,5 @@ abbrev pub yes_at : List ℕ → ℕ → Bool
 yes_at s k = not (eqb (word_of s k) 0)
 
 -- U for 0, V for any other word
-unfoldable pub axis_at : List ℕ → ℕ → Axis
-axis_at s k = when eqb (word_of s k) 0 then U else «V»
+abbrev pub axis_at : List ℕ → ℕ → Axis
+axis_at s k = axis_of (not (eqb (number_at s k) 0))

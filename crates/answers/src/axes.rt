@@ -1,31 +1,22 @@
 // The axes and neighbours of a face: 45 to 49.
 ghost use Rattle.std.specs.Prelude.{◌≡◌};
+ghost use Rattle.answers.specs.Reply.{reply_line};
 ghost use Rattle.answers.specs.Table.{axis_op};
 
-use crate::reply::Reply;
-use crate::{reply, request};
+use crate::reply::{only, reply};
+use crate::request::{float_at, number_at};
+use crate::written::Line;
 
-pub fn axis_op(op: u64, s: &[u8]) -> Reply
-    ensures { result ≡ axis_op op s.now }
+#[tactic(auto, unfolding(crate::specs::Table::axis_op), using(crate::proofs::Listed::listed))]
+pub fn axis_op(op: u64, s: &[u8]) -> Line
+    ensures { result ≡ reply_line (axis_op op s.now) }
 {
-    if op == 45 {
-        return reply::of_face(cube::uvw_face(
-            request::number_at(s, 1),
-            request::number_at(s, 2),
-            request::number_at(s, 3),
-        ));
+    match op {
+        45 => reply(cube::uvw_face(number_at(s, 1), number_at(s, 2), number_at(s, 3))),
+        46 => reply(cube::u_axis(number_at(s, 1))),
+        47 => reply(cube::v_axis(number_at(s, 1))),
+        48 => reply(cube::unorm(number_at(s, 1), float_at(s, 2))),
+        49 => reply(cube::vnorm(number_at(s, 1), float_at(s, 2))),
+        _ => only(255),
     }
-    if op == 46 {
-        return reply::of_vector(cube::u_axis(request::number_at(s, 1)));
-    }
-    if op == 47 {
-        return reply::of_vector(cube::v_axis(request::number_at(s, 1)));
-    }
-    if op == 48 {
-        return reply::of_vector(cube::unorm(request::number_at(s, 1), request::float_at(s, 2)));
-    }
-    if op == 49 {
-        return reply::of_vector(cube::vnorm(request::number_at(s, 1), request::float_at(s, 2)));
-    }
-    reply::only(255)
 }

@@ -1,52 +1,25 @@
 // Operations on intervals: 10 to 17.
 ghost use Rattle.std.specs.Prelude.{◌≡◌};
+ghost use Rattle.answers.specs.Reply.{reply_line};
 ghost use Rattle.answers.specs.Table.{interval_op};
 
-use crate::reply::Reply;
-use crate::{reply, request};
+use crate::reply::{only, reply};
+use crate::request::{float_at, interval_at};
+use crate::written::Line;
 use plane::interval;
 
-pub fn interval_op(op: u64, s: &[u8]) -> Reply
-    ensures { result ≡ interval_op op s.now }
+#[tactic(auto, unfolding(crate::specs::Table::interval_op), using(crate::proofs::Listed::listed))]
+pub fn interval_op(op: u64, s: &[u8]) -> Line
+    ensures { result ≡ reply_line (interval_op op s.now) }
 {
-    if op == 10 {
-        return reply::of_yes_no(interval::is_empty(request::interval_at(s, 1)));
+    match op {
+        10 => reply(interval::is_empty(interval_at(s, 1))),
+        11 => reply(interval::contains(interval_at(s, 1), float_at(s, 3))),
+        12 => reply(interval::contains_interval(interval_at(s, 1), interval_at(s, 3))),
+        13 => reply(interval::intersects(interval_at(s, 1), interval_at(s, 3))),
+        14 => reply(interval::union(interval_at(s, 1), interval_at(s, 3))),
+        15 => reply(interval::intersection(interval_at(s, 1), interval_at(s, 3))),
+        17 => reply(interval::from_point_pair(float_at(s, 1), float_at(s, 2))),
+        _ => only(255),
     }
-    if op == 11 {
-        return reply::of_yes_no(interval::contains(
-            request::interval_at(s, 1),
-            request::float_at(s, 3),
-        ));
-    }
-    if op == 12 {
-        return reply::of_yes_no(interval::contains_interval(
-            request::interval_at(s, 1),
-            request::interval_at(s, 3),
-        ));
-    }
-    if op == 13 {
-        return reply::of_yes_no(interval::intersects(
-            request::interval_at(s, 1),
-            request::interval_at(s, 3),
-        ));
-    }
-    if op == 14 {
-        return reply::of_interval(interval::union(
-            request::interval_at(s, 1),
-            request::interval_at(s, 3),
-        ));
-    }
-    if op == 15 {
-        return reply::of_interval(interval::intersection(
-            request::interval_at(s, 1),
-            request::interval_at(s, 3),
-        ));
-    }
-    if op == 17 {
-        return reply::of_interval(interval::from_point_pair(
-            request::float_at(s, 1),
-            request::float_at(s, 2),
-        ));
-    }
-    reply::only(255)
 }

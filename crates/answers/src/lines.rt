@@ -1,40 +1,29 @@
 // The line tests and the step: 50 to 55.
 ghost use Rattle.std.specs.Prelude.{◌≡◌};
+ghost use Rattle.answers.specs.Reply.{reply_line};
 ghost use Rattle.answers.specs.Table.{line_op};
 
-use crate::reply::Reply;
-use crate::{reply, request};
+use crate::reply::{only, reply};
+use crate::request::{axis_at, float_at, number_at, uv_at, vector_at};
+use crate::written::Line;
 
-pub fn line_op(op: u64, s: &[u8]) -> Reply
-    ensures { result ≡ line_op op s.now }
+#[tactic(auto, unfolding(crate::specs::Table::line_op), using(crate::proofs::Listed::listed))]
+pub fn line_op(op: u64, s: &[u8]) -> Line
+    ensures { result ≡ reply_line (line_op op s.now) }
 {
-    if op == 50 {
-        return reply::of_yes_no(line::sum_equal(
-            request::float_at(s, 1),
-            request::float_at(s, 2),
-            request::float_at(s, 3),
-        ));
+    match op {
+        50 => reply(line::sum_equal(float_at(s, 1), float_at(s, 2), float_at(s, 3))),
+        51 => reply(line::intersects_face(vector_at(s, 1))),
+        52 => reply(line::intersects_opposite_edges(vector_at(s, 1))),
+        53 => reply(line::exit_axis(vector_at(s, 1))),
+        54 => reply(line::exit_point(vector_at(s, 1), axis_at(s, 4))),
+        55 => reply(line::next_face(
+            number_at(s, 1),
+            uv_at(s, 2),
+            axis_at(s, 4),
+            vector_at(s, 5),
+            number_at(s, 8),
+        )),
+        _ => only(255),
     }
-    if op == 51 {
-        return reply::of_yes_no(line::intersects_face(request::vector_at(s, 1)));
-    }
-    if op == 52 {
-        return reply::of_yes_no(line::intersects_opposite_edges(request::vector_at(s, 1)));
-    }
-    if op == 53 {
-        return reply::of_axis(line::exit_axis(request::vector_at(s, 1)));
-    }
-    if op == 54 {
-        return reply::of_uv(line::exit_point(request::vector_at(s, 1), request::axis_at(s, 4)));
-    }
-    if op == 55 {
-        return reply::of_face(line::next_face(
-            request::number_at(s, 1),
-            request::uv_at(s, 2),
-            request::axis_at(s, 4),
-            request::vector_at(s, 5),
-            request::number_at(s, 8),
-        ));
-    }
-    reply::only(255)
 }

@@ -1,25 +1,22 @@
 // Operations on two rectangles: 26 to 29.
 ghost use Rattle.std.specs.Prelude.{◌≡◌};
+ghost use Rattle.answers.specs.Reply.{reply_line};
 ghost use Rattle.answers.specs.Table.{pair_op};
 
-use crate::reply::Reply;
-use crate::{reply, request};
+use crate::reply::{only, reply};
+use crate::request::rect_at;
+use crate::written::Line;
 use plane::rect;
 
-pub fn pair_op(op: u64, s: &[u8]) -> Reply
-    ensures { result ≡ pair_op op s.now }
+#[tactic(auto, unfolding(crate::specs::Table::pair_op), using(crate::proofs::Listed::listed))]
+pub fn pair_op(op: u64, s: &[u8]) -> Line
+    ensures { result ≡ reply_line (pair_op op s.now) }
 {
-    if op == 26 {
-        return reply::of_yes_no(rect::contains(request::rect_at(s, 1), request::rect_at(s, 5)));
+    match op {
+        26 => reply(rect::contains(rect_at(s, 1), rect_at(s, 5))),
+        27 => reply(rect::intersects(rect_at(s, 1), rect_at(s, 5))),
+        28 => reply(rect::union(rect_at(s, 1), rect_at(s, 5))),
+        29 => reply(rect::intersection(rect_at(s, 1), rect_at(s, 5))),
+        _ => only(255),
     }
-    if op == 27 {
-        return reply::of_yes_no(rect::intersects(request::rect_at(s, 1), request::rect_at(s, 5)));
-    }
-    if op == 28 {
-        return reply::of_rect(rect::union(request::rect_at(s, 1), request::rect_at(s, 5)));
-    }
-    if op == 29 {
-        return reply::of_rect(rect::intersection(request::rect_at(s, 1), request::rect_at(s, 5)));
-    }
-    reply::only(255)
 }

@@ -1,34 +1,25 @@
 // Operations on points: 1 to 7.
 ghost use Rattle.std.specs.Prelude.{◌≡◌};
+ghost use Rattle.answers.specs.Reply.{reply_line};
 ghost use Rattle.answers.specs.Table.{point_op};
 
-use crate::reply::Reply;
-use crate::{reply, request};
+use crate::reply::{only, reply};
+use crate::request::{float_at, point_at};
+use crate::written::Line;
 use plane::point;
 
-pub fn point_op(op: u64, s: &[u8]) -> Reply
-    ensures { result ≡ point_op op s.now }
+#[tactic(auto, unfolding(crate::specs::Table::point_op), using(crate::proofs::Listed::listed))]
+pub fn point_op(op: u64, s: &[u8]) -> Line
+    ensures { result ≡ reply_line (point_op op s.now) }
 {
-    if op == 1 {
-        return reply::of_point(point::sum(request::point_at(s, 1), request::point_at(s, 3)));
+    match op {
+        1 => reply(point::sum(point_at(s, 1), point_at(s, 3))),
+        2 => reply(point::difference(point_at(s, 1), point_at(s, 3))),
+        3 => reply(point::scaling(point_at(s, 1), float_at(s, 3))),
+        4 => reply(point::ortho(point_at(s, 1))),
+        5 => reply(point::dot(point_at(s, 1), point_at(s, 3))),
+        6 => reply(point::cross(point_at(s, 1), point_at(s, 3))),
+        7 => reply(point::new(float_at(s, 1), float_at(s, 2))),
+        _ => only(255),
     }
-    if op == 2 {
-        return reply::of_point(point::difference(request::point_at(s, 1), request::point_at(s, 3)));
-    }
-    if op == 3 {
-        return reply::of_point(point::scaling(request::point_at(s, 1), request::float_at(s, 3)));
-    }
-    if op == 4 {
-        return reply::of_point(point::ortho(request::point_at(s, 1)));
-    }
-    if op == 5 {
-        return reply::of_float(point::dot(request::point_at(s, 1), request::point_at(s, 3)));
-    }
-    if op == 6 {
-        return reply::of_float(point::cross(request::point_at(s, 1), request::point_at(s, 3)));
-    }
-    if op == 7 {
-        return reply::of_point(point::new(request::float_at(s, 1), request::float_at(s, 2)));
-    }
-    reply::only(255)
 }

@@ -1,50 +1,33 @@
 // Operations on a rectangle: 19 to 25.
 ghost use Rattle.std.specs.Prelude.{◌≡◌};
+ghost use Rattle.answers.specs.Reply.{reply_line};
 ghost use Rattle.answers.specs.Table.{rect_op, two_corners};
 
-use crate::reply::Reply;
-use crate::{reply, request};
-use answer::DONE;
-use plane::{Rect, RectAnswer, rect};
+use crate::reply::{only, reply};
+use crate::request::{point_at, rect_at, word};
+use crate::written::Line;
+use answer::Refusal;
+use plane::{Point, Rect, rect};
 
-pub fn rect_op(op: u64, s: &[u8]) -> Reply
-    ensures { result ≡ rect_op op s.now }
+#[tactic(auto, unfolding(crate::specs::Table::rect_op), using(crate::proofs::Listed::listed))]
+pub fn rect_op(op: u64, s: &[u8]) -> Line
+    ensures { result ≡ reply_line (rect_op op s.now) }
 {
-    if op == 19 {
-        return reply::of_rect(RectAnswer::answer(DONE, Rect::EMPTY));
+    match op {
+        19 => reply(Ok(Rect::EMPTY)),
+        20 => reply(rect::from_points(point_at(s, 1), point_at(s, 3))),
+        21 => reply(rect::vertices(rect_at(s, 1))),
+        22 => reply(rect::vertex_ij(rect_at(s, 1), word(s, 5), word(s, 6))),
+        23 => reply(two_corners(rect_at(s, 1))),
+        24 => reply(rect::is_empty(rect_at(s, 1))),
+        25 => reply(rect::contains_point(rect_at(s, 1), point_at(s, 5))),
+        _ => only(255),
     }
-    if op == 20 {
-        return reply::of_rect(rect::from_points(request::point_at(s, 1), request::point_at(s, 3)));
-    }
-    if op == 21 {
-        return reply::of_corners(rect::vertices(request::rect_at(s, 1)));
-    }
-    if op == 22 {
-        return reply::of_point(rect::vertex_ij(
-            request::rect_at(s, 1),
-            request::word(s, 5),
-            request::word(s, 6),
-        ));
-    }
-    if op == 23 {
-        return two_corners(request::rect_at(s, 1));
-    }
-    if op == 24 {
-        return reply::of_yes_no(rect::is_empty(request::rect_at(s, 1)));
-    }
-    if op == 25 {
-        return reply::of_yes_no(rect::contains_point(
-            request::rect_at(s, 1),
-            request::point_at(s, 5),
-        ));
-    }
-    reply::only(255)
 }
 
 // The low corner and the high one.
-fn two_corners(r: Rect) -> Reply
+fn two_corners(r: Rect) -> Result<(Point, Point), Refusal>
     ensures { result ≡ two_corners r }
 {
-    let lo = rect::lo(r);
-    reply::of_points(lo.number, lo.point, rect::hi(r).point)
+    Ok((rect::lo(r)?, rect::hi(r)?))
 }

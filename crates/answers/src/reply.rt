@@ -1,289 +1,286 @@
-// The reply to a request: a number and, beside 0, words.
-ghost use Rattle.std.specs.Prelude.{◌≡◌};
-ghost use Rattle.answers.specs.Reply.{reply, only_reply, yes_no_reply, axis_reply, points_reply, four_reply, corners_reply, clipped_reply, yes_word, axis_word, float_reply, point_reply, interval_reply, rect_reply, axes_reply, face_reply, face_uv_reply, uv_reply, vector_reply, stretch_reply};
+// The line of a reply: the number of an answer and, beside 0, the words of its value.
+ghost use Rattle.std.specs.Prelude.{◌≡◌, ◌+◌, ◌*◌, ◌≤◌, ℕ, List, [], ◌++◌, length};
+ghost use Rattle.std.proofs.Common.{rules};
+ghost use Rattle.answers.specs.Number.{groups, numbered};
+ghost use Rattle.answers.specs.Reply.{reply, only_reply, reply_line, yes_words, face_words, axis_words, float_words, point_words, points_words, corners_words, segment_words, interval_words, both_words, rect_words, uv_words, face_uv_words, vector_words, stretch_words, reply_or, count_words, pair_words, counts_words};
 
-use answer::{DONE, MISSED, Real, YesNo};
-use clip::{AxesAnswer, Clipped};
-use cube::{FaceAnswer, FaceUv, UvAnswer, VectorAnswer};
-use line::{Axis, AxisAnswer};
-use plane::{Corners, IntervalAnswer, Point, PointAnswer, RectAnswer};
-use stretch::StretchAnswer;
+use crate::written::Line;
+use answer::Refusal;
+use clip::Segment;
+use clip::compute::Both;
+use cube::compute::Uv;
+use cube::{FaceUv, Vector};
+use line::Axis;
+use plane::{Interval, Point, Rect};
+use stretch::Stretch;
+use trace::Counts;
 
-// The first count of the words are the reply's; none beside a number that is not 0.
-#[derive(Clone, Copy)]
-pub struct Reply {
-    pub number: u8,
-    pub count: usize,
-    pub words: [u64; 8],
+// A value that a line shows, in eight words at the most.
+pub(crate) trait Words {
+    ghost words: { Self → List ℕ };
+
+    fn put(self, line: &mut Line)
+        requires { length line.old + 17 * length (words self) ≤ 1334 }
+        ensures text { line.new ≡ line.old ++ groups (words self) }
+        ensures long { length line.new ≡ length line.old + 17 * length (words self) };
+
+    ghost few: { (x : Self) → length (words x) ≤ 8 };
 }
 
-impl Reply {
-    fn new(number: u8, count: usize, words: [u64; 8]) -> Self
-        ensures { result ≡ reply number count words }
-    {
-        if number == DONE {
-            return Reply {
-                number,
-                count,
-                words,
-            };
-        }
-        Reply {
-            number,
-            count: 0,
-            words,
-        }
+// The line of an answer: its value's words beside 0, or the refusal's number alone.
+pub(crate) fn reply<T: Words + Copy>(answer: Result<T, Refusal>) -> Line
+    ensures { result ≡ reply_line (reply T.words answer) }
+{
+    match answer {
+        Ok(value) => ended(0, value),
+        Err(refusal) => only(refusal.number()),
     }
 }
 
-// A number alone.
-pub fn only(number: u8) -> Reply
-    ensures { result ≡ only_reply number }
+// The line of a number alone.
+pub(crate) fn only(number: u8) -> Line
+    ensures { result ≡ reply_line (only_reply number) }
 {
-    Reply {
-        number,
-        count: 0,
-        words: [0; 8],
+    ended(number, ())
+}
+
+// The line of an answer whose words stand beside every number: zero's beside a refusal.
+pub(crate) fn reply_or<T: Words + Copy>(answer: Result<T, Refusal>, zero: T) -> Line
+    ensures { result ≡ reply_line (reply_or T.words answer zero) }
+{
+    ended(answer::number(answer), answer.unwrap_or(zero))
+}
+
+#[tactic(auto, unfolding(crate::specs::Reply::reply_line))]
+fn ended<T: Words>(number: u8, value: T) -> Line
+    ensures { result ≡ reply_line (record { number = number; words = T.words value }) }
+{
+    let mut line = numbered(number, value);
+    line.push(b'\n');
+    line
+}
+
+// A number and a value's words.
+pub(crate) fn numbered<T: Words>(number: u8, value: T) -> Line
+    ensures text { result ≡ numbered number (T.words value) }
+    ensures long { length result ≤ 3 + 17 * length (T.words value) }
+    ensures most { length result ≤ 139 }
+{
+    let mut line = Line::new();
+    line.push_number(number);
+    value.put(&mut line);
+    line
+}
+
+impl Words for () {
+    ghost words = { λ _. [] };
+
+    ghost few = { Prim.search rules };
+
+    fn put(self, _line: &mut Line) {}
+}
+
+impl Words for bool {
+    ghost words = { yes_words };
+
+    ghost few = { Prim.search rules };
+
+    fn put(self, line: &mut Line) {
+        line.push_word(u64::from(self));
     }
 }
 
-pub fn of_yes_no(a: YesNo) -> Reply
-    ensures { result ≡ yes_no_reply a }
-{
-    Reply::new(a.number, 1, [yes_word(a.yes), 0, 0, 0, 0, 0, 0, 0])
-}
+// A face.
+impl Words for u8 {
+    ghost words = { face_words };
 
-pub fn of_axis(a: AxisAnswer) -> Reply
-    ensures { result ≡ axis_reply a }
-{
-    let axis = a.axis;
-    Reply::new(a.number, 1, [axis_word(axis), 0, 0, 0, 0, 0, 0, 0])
-}
+    ghost few = { Prim.search rules };
 
-pub fn of_points(number: u8, p: Point, q: Point) -> Reply
-    ensures { result ≡ points_reply number p q }
-{
-    Reply::new(
-        number,
-        4,
-        [
-            float::to_bits(p.x),
-            float::to_bits(p.y),
-            float::to_bits(q.x),
-            float::to_bits(q.y),
-            0,
-            0,
-            0,
-            0,
-        ],
-    )
-}
-
-pub fn of_clipped(c: Clipped) -> Reply
-    ensures { result ≡ clipped_reply c }
-{
-    match c {
-        Clipped::Kept(s) => of_points(DONE, Point { x: s.ax, y: s.ay }, Point { x: s.bx, y: s.by }),
-        Clipped::Missed => of_points(MISSED, Point { x: 0.0, y: 0.0 }, Point { x: 0.0, y: 0.0 }),
-        Clipped::Refused(n) => of_points(n, Point { x: 0.0, y: 0.0 }, Point { x: 0.0, y: 0.0 }),
+    fn put(self, line: &mut Line) {
+        line.push_word(u64::from(self));
     }
 }
 
-pub fn of_float(a: Real) -> Reply
-    ensures { result ≡ float_reply a }
-{
-    Reply::new(a.number, 1, [float::to_bits(a.value), 0, 0, 0, 0, 0, 0, 0])
-}
+impl Words for Axis {
+    ghost words = { axis_words };
 
-pub fn of_point(a: PointAnswer) -> Reply
-    ensures { result ≡ point_reply a }
-{
-    Reply::new(
-        a.number,
-        2,
-        [
-            float::to_bits(a.point.x),
-            float::to_bits(a.point.y),
-            0,
-            0,
-            0,
-            0,
-            0,
-            0,
-        ],
-    )
-}
+    ghost few = { Prim.search rules };
 
-pub fn of_interval(a: IntervalAnswer) -> Reply
-    ensures { result ≡ interval_reply a }
-{
-    Reply::new(
-        a.number,
-        2,
-        [
-            float::to_bits(a.interval.lo),
-            float::to_bits(a.interval.hi),
-            0,
-            0,
-            0,
-            0,
-            0,
-            0,
-        ],
-    )
-}
-
-pub fn of_rect(a: RectAnswer) -> Reply
-    ensures { result ≡ rect_reply a }
-{
-    Reply::new(
-        a.number,
-        4,
-        [
-            float::to_bits(a.rect.x.lo),
-            float::to_bits(a.rect.y.lo),
-            float::to_bits(a.rect.x.hi),
-            float::to_bits(a.rect.y.hi),
-            0,
-            0,
-            0,
-            0,
-        ],
-    )
-}
-
-pub fn of_axes(a: AxesAnswer) -> Reply
-    ensures { result ≡ axes_reply a }
-{
-    Reply::new(
-        a.number,
-        4,
-        [
-            float::to_bits(a.both.this.lo),
-            float::to_bits(a.both.this.hi),
-            float::to_bits(a.both.other.lo),
-            float::to_bits(a.both.other.hi),
-            0,
-            0,
-            0,
-            0,
-        ],
-    )
-}
-
-pub fn of_face(a: FaceAnswer) -> Reply
-    ensures { result ≡ face_reply a }
-{
-    Reply::new(a.number, 1, [wide(a.face), 0, 0, 0, 0, 0, 0, 0])
-}
-
-pub fn of_face_uv(a: FaceUv) -> Reply
-    ensures { result ≡ face_uv_reply a }
-{
-    Reply::new(
-        a.number,
-        3,
-        [
-            wide(a.face),
-            float::to_bits(a.u),
-            float::to_bits(a.v),
-            0,
-            0,
-            0,
-            0,
-            0,
-        ],
-    )
-}
-
-pub fn of_uv(a: UvAnswer) -> Reply
-    ensures { result ≡ uv_reply a }
-{
-    Reply::new(
-        a.number,
-        2,
-        [float::to_bits(a.u), float::to_bits(a.v), 0, 0, 0, 0, 0, 0],
-    )
-}
-
-pub fn of_vector(a: VectorAnswer) -> Reply
-    ensures { result ≡ vector_reply a }
-{
-    Reply::new(
-        a.number,
-        3,
-        [
-            float::to_bits(a.vector.x),
-            float::to_bits(a.vector.y),
-            float::to_bits(a.vector.z),
-            0,
-            0,
-            0,
-            0,
-            0,
-        ],
-    )
-}
-
-pub fn of_corners(a: Corners) -> Reply
-    ensures { result ≡ corners_reply a }
-{
-    let p = a.vertices[0];
-    let q = a.vertices[1];
-    let t = a.vertices[2];
-    let v = a.vertices[3];
-    four_points(a.number, p, q, t, v)
-}
-
-fn four_points(number: u8, p: Point, q: Point, t: Point, v: Point) -> Reply
-    ensures { result ≡ four_reply number p q t v }
-{
-    Reply::new(
-        number,
-        8,
-        [
-            float::to_bits(p.x),
-            float::to_bits(p.y),
-            float::to_bits(q.x),
-            float::to_bits(q.y),
-            float::to_bits(t.x),
-            float::to_bits(t.y),
-            float::to_bits(v.x),
-            float::to_bits(v.y),
-        ],
-    )
-}
-
-// 1 or 0.
-fn yes_word(yes: bool) -> u64
-    ensures { result ≡ yes_word yes }
-{
-    if yes { 1 } else { 0 }
-}
-
-// 0 for U, 1 for V.
-fn axis_word(a: Axis) -> u64
-    ensures { result ≡ axis_word a }
-{
-    match a {
-        Axis::U => 0,
-        Axis::V => 1,
+    fn put(self, line: &mut Line) {
+        line.push_word(u64::from(u8::from(self)));
     }
 }
 
-fn wide(x: u8) -> u64
-    ensures { result ≡ x }
-{
-    x as u64
+impl Words for f64 {
+    ghost words = { float_words };
+
+    ghost few = { Prim.search rules };
+
+    fn put(self, line: &mut Line) {
+        line.push_float(self);
+    }
 }
 
-// The first sample and the count of samples, beside every number.
-pub fn of_stretch(a: StretchAnswer) -> Reply
-    ensures { result ≡ stretch_reply a }
-{
-    Reply {
-        number: a.number,
-        count: 2,
-        words: [a.first as u64, a.count as u64, 0, 0, 0, 0, 0, 0],
+impl Words for Point {
+    ghost words = { point_words };
+
+    ghost few = { Prim.search rules };
+
+    fn put(self, line: &mut Line) {
+        line.push_float(self.x);
+        line.push_float(self.y);
+    }
+}
+
+// Two corners.
+impl Words for (Point, Point) {
+    ghost words = { points_words };
+
+    ghost few = { Prim.search rules };
+
+    fn put(self, line: &mut Line) {
+        self.0.put(line);
+        self.1.put(line);
+    }
+}
+
+// Four corners.
+impl Words for [Point; 4] {
+    ghost words = { corners_words };
+
+    ghost few = { Prim.search rules };
+
+    fn put(self, line: &mut Line) {
+        let [a, b, c, d] = self;
+        (a, b).put(line);
+        (c, d).put(line);
+    }
+}
+
+impl Words for Segment {
+    ghost words = { segment_words };
+
+    ghost few = { Prim.search rules };
+
+    fn put(self, line: &mut Line) {
+        line.push_float(self.ax);
+        line.push_float(self.ay);
+        line.push_float(self.bx);
+        line.push_float(self.by);
+    }
+}
+
+impl Words for Interval {
+    ghost words = { interval_words };
+
+    ghost few = { Prim.search rules };
+
+    fn put(self, line: &mut Line) {
+        line.push_float(self.lo);
+        line.push_float(self.hi);
+    }
+}
+
+impl Words for Both {
+    ghost words = { both_words };
+
+    ghost few = { Prim.search rules };
+
+    fn put(self, line: &mut Line) {
+        self.this.put(line);
+        self.other.put(line);
+    }
+}
+
+impl Words for Rect {
+    ghost words = { rect_words };
+
+    ghost few = { Prim.search rules };
+
+    fn put(self, line: &mut Line) {
+        line.push_float(self.x.lo);
+        line.push_float(self.y.lo);
+        line.push_float(self.x.hi);
+        line.push_float(self.y.hi);
+    }
+}
+
+impl Words for Uv {
+    ghost words = { uv_words };
+
+    ghost few = { Prim.search rules };
+
+    fn put(self, line: &mut Line) {
+        line.push_float(self.u);
+        line.push_float(self.v);
+    }
+}
+
+impl Words for FaceUv {
+    ghost words = { face_uv_words };
+
+    ghost few = { Prim.search rules };
+
+    fn put(self, line: &mut Line) {
+        line.push_word(u64::from(self.face));
+        self.at.put(line);
+    }
+}
+
+impl Words for Vector {
+    ghost words = { vector_words };
+
+    ghost few = { Prim.search rules };
+
+    fn put(self, line: &mut Line) {
+        line.push_float(self.x);
+        line.push_float(self.y);
+        line.push_float(self.z);
+    }
+}
+
+// A count.
+impl Words for usize {
+    ghost words = { count_words };
+
+    ghost few = { Prim.search rules };
+
+    fn put(self, line: &mut Line) {
+        line.push_word(self as u64);
+    }
+}
+
+impl Words for (usize, usize) {
+    ghost words = { pair_words };
+
+    ghost few = { Prim.search rules };
+
+    fn put(self, line: &mut Line) {
+        line.push_word(self.0 as u64);
+        line.push_word(self.1 as u64);
+    }
+}
+
+impl Words for Counts {
+    ghost words = { counts_words };
+
+    ghost few = { Prim.search rules };
+
+    fn put(self, line: &mut Line) {
+        line.push_word(self.kept as u64);
+        line.push_word(self.missed as u64);
+        line.push_word(self.refused as u64);
+        line.push_word(self.edges as u64);
+    }
+}
+
+impl Words for Stretch {
+    ghost words = { stretch_words };
+
+    ghost few = { Prim.search rules };
+
+    fn put(self, line: &mut Line) {
+        line.push_word(self.first as u64);
+        line.push_word(self.count as u64);
     }
 }

@@ -1,4 +1,7 @@
-// The arguments of a request, by the place of their first word: 0 is the operation.
+// The arguments of a request, by the place of their first word: 0 is the operation. Each call names its place, and the check
+// bounds it; a type for a place would be tested where there is nothing to test. `reading` has these by bytes, and no words.
+#![tactic(auto, unfolding(crate::specs::Request::float_at, crate::specs::Request::point_at, crate::specs::Request::interval_at, crate::specs::Request::rect_at, crate::specs::Request::uv_at, crate::specs::Request::vector_at, crate::specs::Request::floats_at, crate::specs::Request::whose_at))]
+
 ghost use Rattle.std.specs.Prelude.{◌≡◌, ◌+◌, ◌≤◌, ◌<◌};
 ghost use Rattle.answers.specs.Request.{word_of, word_up_to, float_at, point_at, interval_at, rect_at, uv_at, vector_at, floats_at, number_at, whose_at, yes_at, axis_at};
 
@@ -18,7 +21,7 @@ pub(crate) fn float_at(s: &[u8], k: usize) -> f64
     requires { k < 24 }
     ensures { result ≡ float_at s.now k }
 {
-    float::from_bits(word(s, k))
+    reading::float_at(s, 8 * k)
 }
 
 pub(crate) fn point_at(s: &[u8], k: usize) -> Point
@@ -80,24 +83,11 @@ pub(crate) fn floats_at(s: &[u8], k: usize) -> [f64; 16]
     requires { k < 9 }
     ensures { result ≡ floats_at s.now k }
 {
-    [
-        float_at(s, k),
-        float_at(s, k + 1),
-        float_at(s, k + 2),
-        float_at(s, k + 3),
-        float_at(s, k + 4),
-        float_at(s, k + 5),
-        float_at(s, k + 6),
-        float_at(s, k + 7),
-        float_at(s, k + 8),
-        float_at(s, k + 9),
-        float_at(s, k + 10),
-        float_at(s, k + 11),
-        float_at(s, k + 12),
-        float_at(s, k + 13),
-        float_at(s, k + 14),
-        float_at(s, k + 15),
-    ]
+    let mut floats = [0.0; 16];
+    for i in 0..16 {
+        floats[i] = float_at(s, k + i);
+    }
+    floats
 }
 
 // The word, or the most where it is larger.
@@ -105,11 +95,7 @@ pub(crate) fn word_up_to(s: &[u8], k: usize, most: u64) -> usize
     requires { k < 24 }
     ensures { (result ≡ word_up_to s.now k most) × (result ≤ most) }
 {
-    let w = word(s, k);
-    if w <= most {
-        return w as usize;
-    }
-    most as usize
+    word(s, k).min(most) as usize
 }
 
 // A face, axis or direction: 255, above every limit, for a word above it.
@@ -117,11 +103,7 @@ pub(crate) fn number_at(s: &[u8], k: usize) -> u8
     requires { k < 24 }
     ensures { result ≡ number_at s.now k }
 {
-    let w = word(s, k);
-    if w <= 255 {
-        return w as u8;
-    }
-    255
+    word(s, k).min(255) as u8
 }
 
 // A trace number: the word modulo 2^32.
@@ -144,8 +126,5 @@ pub(crate) fn axis_at(s: &[u8], k: usize) -> Axis
     requires { k < 24 }
     ensures { result ≡ axis_at s.now k }
 {
-    if word(s, k) == 0 {
-        return Axis::U;
-    }
-    Axis::V
+    Axis::from(number_at(s, k))
 }

@@ -1,40 +1,36 @@
-// The reply to a request, by its operation.
+// The reply to a request, by its operation: document 01's numbers, each of which an enum would only name a second time.
 ghost use Rattle.std.specs.Prelude.{◌≡◌};
+ghost use Rattle.answers.specs.Reply.{reply_line};
 ghost use Rattle.answers.specs.Table.{reply_of};
 
-use crate::reply::Reply;
-use crate::{axes, cuts, faces, intervals, lines, pairs, points, rects, reply, request, stretched};
+use crate::axes::axis_op;
+use crate::cuts::cut_op;
+use crate::faces::face_op;
+use crate::intervals::interval_op;
+use crate::lines::line_op;
+use crate::pairs::pair_op;
+use crate::points::point_op;
+use crate::rects::rect_op;
+use crate::reply::only;
+use crate::request::word;
+use crate::stretched::stretch_op;
+use crate::written::Line;
 
-pub fn reply_of(s: &[u8]) -> Reply
-    ensures { result ≡ reply_of s.now }
+#[tactic(auto, unfolding(crate::specs::Table::reply_of), using(crate::proofs::Listed::listed))]
+pub fn reply_of(s: &[u8]) -> Line
+    ensures { result ≡ reply_line (reply_of s.now) }
 {
-    let op = request::word(s, 0);
-    if op <= 9 {
-        return points::point_op(op, s);
+    let op = word(s, 0);
+    match op {
+        0..=9 => point_op(op, s),
+        10..=18 => interval_op(op, s),
+        19..=25 => rect_op(op, s),
+        26..=29 => pair_op(op, s),
+        30..=39 => cut_op(op, s),
+        40..=44 => face_op(op, s),
+        45..=49 => axis_op(op, s),
+        50..=59 => line_op(op, s),
+        60..=63 => stretch_op(op, s),
+        _ => only(255),
     }
-    if op <= 18 {
-        return intervals::interval_op(op, s);
-    }
-    if op <= 25 {
-        return rects::rect_op(op, s);
-    }
-    if op <= 29 {
-        return pairs::pair_op(op, s);
-    }
-    if op <= 39 {
-        return cuts::cut_op(op, s);
-    }
-    if op <= 44 {
-        return faces::face_op(op, s);
-    }
-    if op <= 49 {
-        return axes::axis_op(op, s);
-    }
-    if op <= 59 {
-        return lines::line_op(op, s);
-    }
-    if op <= 63 {
-        return stretched::stretch_op(op, s);
-    }
-    reply::only(255)
 }

@@ -1,46 +1,31 @@
 // Operation 60: the line of a walk on a lent buffer.
-ghost use Rattle.std.specs.Prelude.{◌≡◌, ◌+◌, ◌≤◌, length};
-ghost use Rattle.buffer.specs.Bytes.{stored};
-ghost use Rattle.answers.specs.Walked.{walked_line, walk_line_on, walk_line};
+ghost use Rattle.std.specs.Prelude.{◌≡◌, ◌≤◌, length};
+ghost use Rattle.answers.specs.Walked.{walk_line_on, walk_line};
 
-use crate::{lent, request};
-use walk::WalkAnswer;
+use crate::lent::shown;
+use crate::request::{number_at, uv_at, vector_at, whose_at, word_up_to};
+use crate::written::Line;
 
-// The line of a walk on a buffer of the length asked, every byte a5; the place after it.
-pub(crate) fn put_walk(out: &mut [u8], to: usize, s: &[u8]) -> usize
-    requires { to + 822 ≤ length out.old }
-    ensures { (result ≡ to + length (walk_line s.now)) × (out.new ≡ stored out.old to (walk_line s.now)) × (result ≤ to + 822) }
+// The line of a walk on a buffer of the length asked, every byte a5.
+#[tactic(auto, unfolding(crate::specs::Walked::walk_line))]
+pub(crate) fn walk_line(s: &[u8]) -> Line
+    ensures { result ≡ walk_line s.now }
 {
     let mut lent = [0xa5u8; 400];
-    let n = request::word_up_to(s, 10, 400);
-    put_walk_on(out, to, s, &mut lent[..n])
+    let n = word_up_to(s, 10, 400);
+    walk_line_on(s, &mut lent[..n])
 }
 
-fn put_walk_on(out: &mut [u8], to: usize, s: &[u8], lent: &mut [u8]) -> usize
-    requires { (to + 822 ≤ length out.old) × (length lent.old ≤ 400) }
-    ensures { (result ≡ to + length (walk_line_on lent.old s.now)) × (out.new ≡ stored out.old to (walk_line_on lent.old s.now)) × (result ≤ to + 822) }
+#[tactic(auto, unfolding(crate::specs::Walked::walk_line_on))]
+fn walk_line_on(s: &[u8], lent: &mut [u8]) -> Line
+    requires { length lent.old ≤ 400 }
+    ensures { result ≡ walk_line_on lent.old s.now }
 {
-    let face = request::number_at(s, 1);
-    let a = request::uv_at(s, 2);
-    let target = request::number_at(s, 4);
-    let b = request::uv_at(s, 5);
-    let normal = request::vector_at(s, 7);
-    let whose = request::whose_at(s, 11);
-    let answer = walk::walk(face, a, target, b, normal, whose, lent);
-    put_walked(out, to, answer, lent)
-}
-
-// The number, the count and the bytes; the place after them.
-fn put_walked(out: &mut [u8], to: usize, a: WalkAnswer, bytes: &[u8]) -> usize
-    requires { (to + 822 ≤ length out.old) × (length bytes.now ≤ 400) }
-    ensures { (result ≡ to + length (walked_line a bytes.now)) × (out.new ≡ stored out.old to (walked_line a bytes.now)) × (result ≤ to + 822) }
-{
-    lent::put_shown(
-        out,
-        to,
-        a.number,
-        [a.count as u64, 0, 0, 0, 0, 0, 0, 0],
-        1,
-        bytes,
-    )
+    let face = number_at(s, 1);
+    let a = uv_at(s, 2);
+    let target = number_at(s, 4);
+    let b = uv_at(s, 5);
+    let normal = vector_at(s, 7);
+    let count = walk::walk(face, a, target, b, normal, whose_at(s, 11), lent);
+    shown(count, 0, lent)
 }

@@ -1,11 +1,17 @@
 -- Bytes stored one after the other.
 use Prim.Native.Nat.{ℕ, zero, suc, ◌+◌, ◌-◌, ◌*◌, ◌/◌, ◌%◌, ◌^◌, ◌≤◌, ◌<◌}
 use native.Mathlib.Nat.{add-zero}
+use native.Mathlib.Numerals.{add-one}
 use native.Mathlib.Omega.{arith}
 use mathlib.Core.Path.{◌≡◌, refl, sym, ap, ◌∙◌}
-use mathlib.Core.List.{List, [], ◌∷◌, ◌++◌}
-use lib.ListN.{length, set, length-set}
+use mathlib.Core.List.{List, [], ◌∷◌, ◌++◌, append_assoc, append-nil}
+use lib.ListN.{length, set, length-set, take, drop, get_or}
 use lib.Dec.{leb}
+use lib.Seq.{sets, drop-drop}
+use borrow.Rule.Slice.PartMut.{put_mid}
+use Rattle.std.proofs.Common.{w64, drop_of_length-le}
+use Rattle.std.proofs.lemmas.List.Edits.{sets-eq}
+use Rattle.std.specs.Int.{to_le_bytes}
 use Rattle.float.proofs.Choice.{cases, when_le, when_gt}
 use Rattle.buffer.specs.Bytes.{bytes_of, stored, placed, followed_by}
 use Rattle.buffer.specs.Digits.{digit_of, hex, group}
@@ -35,6 +41,16 @@ stored_front xs [] h = refl
 stored_front [] (b ∷ bs) h = absurd (omega arith)
 stored_front (x ∷ xs) (b ∷ bs) h = stored_ahead b xs 0 bs ∙ ap (λ (l : List ℕ). b ∷ l) (stored_front xs bs (omega arith))
 
+-- as std has them
+stored_sets : (xs : List ℕ) (p : ℕ) (bs : List ℕ) → stored xs p bs ≡ sets xs p bs
+unfolding stored
+stored_sets xs p [] = refl
+stored_sets xs p (b ∷ bs) = rw add-one (stored_sets (set xs p b) (suc p) bs)
+
+-- what is before the run, the run, and what is after it
+stored_part : (xs : List ℕ) (p : ℕ) (bs : List ℕ) → p + length bs ≤ length xs → stored xs p bs ≡ take p xs ++ (bs ++ drop (length bs) (drop p xs))
+stored_part xs p bs h = stored_sets xs p bs ∙ sets-eq bs xs p h ∙ rw (drop-drop, append_assoc)
+
 module _ (xs : List ℕ) (p : ℕ) (bs : List ℕ) where
   pub placed_fits : p + length bs ≤ length xs → stored xs p bs ≡ placed xs p bs
   unfolding placed
@@ -43,6 +59,11 @@ module _ (xs : List ℕ) (p : ℕ) (bs : List ℕ) where
   pub placed_not : length xs < p + length bs → xs ≡ placed xs p bs
   unfolding placed
   placed_not h = when_gt _ _ _ _ _ h refl
+
+-- a part that was overwritten
+pub placed_part : (xs ys bs : List ℕ) (p n : ℕ) → p + length bs ≤ length xs → n ≡ length bs → ys ≡ bs → put_mid p n xs ys ≡ placed xs p bs
+placed_part xs ys bs p n h k e =
+    rw (k, e) (sym (stored_part xs p bs h)) ∙ placed_fits xs p bs h
 
 pub placed_length : (xs ys : List ℕ) (p : ℕ) (bs : List ℕ) → ys ≡ placed xs p bs → length ys ≡ length xs
 unfolding placed
@@ -65,17 +86,27 @@ pub length_group : (n : ℕ) → length (group n) ≡ 17
 unfolding group
 length_group n = ap suc (length_hex 16 n)
 
--- the highest of k + 1 digits, stored, leaves the k others
-pub hex_step : (xs : List ℕ) (p k n : ℕ) → 0 < k → stored xs p (hex k n) ≡ stored (set xs p (digit_of (n / 2 ^ (4 * (k - 1)) % 16))) (p + 1) (hex (k - 1) n)
+-- the highest of 16 - k digits, stored, leaves the others
+pub hex_step : (xs : List ℕ) (p k n : ℕ) → k < 16 → stored xs p (hex (16 - k) n) ≡ stored (set xs p (digit_of (n / 2 ^ (60 - 4 * k) % 16))) (p + 1) (hex (16 - (k + 1)) n)
 unfolding stored hex
-hex_step xs p zero n h = elim h [ ]
-hex_step xs p (suc k) n h = let e : suc k - 1 ≡ k = omega arith in rw e
+hex_step xs p k n h =
+    let a : 16 - k ≡ suc (16 - (k + 1)) = omega arith in
+    let b : 60 - 4 * k ≡ 4 * (16 - (k + 1)) = omega arith in
+    rw (a, b)
 
--- no digit is left: the run that began with a space is a group, whole
-pub group_done : (xs out : List ℕ) (p to k n : ℕ) → k ≤ 0 → p + 17 ≤ length xs → stored out to (hex k n) ≡ stored (set xs p 32) (p + 1) (hex 16 n) → out ≡ placed xs p (group n)
-unfolding stored hex group
-group_done xs out p to zero n h l e = e ∙ placed_fits xs p (group n) (omega (arith, length_group n))
-group_done xs out p to (suc k) n h l e = absurd (omega arith)
+-- none is left
+pub hex_done : (xs : List ℕ) (p k n : ℕ) → 16 ≤ k → xs ≡ stored xs p (hex (16 - k) n)
+unfolding stored hex
+hex_done xs p k n h = let e : 16 - k ≡ 0 = omega arith in rw e
+
+-- sixteen, stored behind a space, are a group
+pub group_is : (xs : List ℕ) (n : ℕ) → length xs ≡ 17 → get_or xs 0 0 ≡ 32 → stored xs 1 (hex 16 n) ≡ group n
+unfolding group
+group_is [] n l e = absurd (omega arith)
+group_is (x ∷ xs) n l e =
+    let f = stored_front xs (hex 16 n) (omega (arith, length_hex 16 n)) in
+    let d : drop (length (hex 16 n)) xs ≡ [] = drop_of_length-le xs (omega (arith, length_hex 16 n)) in
+    stored_ahead x xs 0 (hex 16 n) ∙ rw (e, f) (rw (d, append-nil))
 
 -- ---- bytes of a word
 pub length_bytes : (k n : ℕ) → length (bytes_of k n) ≡ k
@@ -83,14 +114,14 @@ unfolding bytes_of
 length_bytes zero n = refl
 length_bytes (suc k) n = ap suc (length_bytes k (n / 256))
 
--- the lowest of k + 1 bytes, stored, leaves the k others
-pub bytes_step : (xs : List ℕ) (p k n : ℕ) → 0 < k → stored xs p (bytes_of k n) ≡ stored (set xs p (n % 256)) (p + 1) (bytes_of (k - 1) (n / 256))
-unfolding stored bytes_of
-bytes_step xs p zero n h = elim h [ ]
-bytes_step xs p (suc k) n h = let e : suc k - 1 ≡ k = omega arith in rw e
-
--- no byte is left
-pub bytes_done : (xs out : List ℕ) (p to k m n w : ℕ) → k ≤ 0 → p + m ≤ length xs → stored out to (bytes_of k w) ≡ stored xs p (bytes_of m n) → out ≡ placed xs p (bytes_of m n)
-unfolding stored bytes_of
-bytes_done xs out p to zero m n w h l e = e ∙ placed_fits xs p (bytes_of m n) (omega (arith, length_bytes m n))
-bytes_done xs out p to (suc k) m n w h l e = absurd (omega arith)
+-- as std has them
+pub le_bytes : (n : ℕ) → to_le_bytes w64 n ≡ bytes_of 8 n
+unfolding bytes_of
+le_bytes n =
+    let a : n / 0x100 / 256 ≡ n / 0x1_0000 = omega arith in
+    let b : n / 0x1_0000 / 256 ≡ n / 0x100_0000 = omega arith in
+    let c : n / 0x100_0000 / 256 ≡ n / 0x1_0000_0000 = omega arith in
+    let d : n / 0x1_0000_0000 / 256 ≡ n / 0x100_0000_0000 = omega arith in
+    let e : n / 0x100_0000_0000 / 256 ≡ n / 0x1_0000_0000_0000 = omega arith in
+    let f : n / 0x1_0000_0000_0000 / 256 ≡ n / 0x100_0000_0000_0000 = omega arith in
+    simp (a, b, c, d, e, f)

@@ -2,7 +2,7 @@
 // is not written at all.
 #![tactic(auto)]
 
-ghost use Rattle.std.specs.Prelude.{◌≡◌, ◌%◌, ◌<◌};
+ghost use Rattle.std.specs.Prelude.{[], ◌∷◌, ◌/◌, ◌%◌, ◌≡◌, ◌<◌};
 ghost use Rattle.buffer.specs.Bytes.{word_at, bytes_of, placed};
 ghost use Rattle.buffer.specs.Digits.{digit_of, group};
 
@@ -10,73 +10,56 @@ ghost use Rattle.buffer.specs.Digits.{digit_of, group};
 pub fn word_at(s: &[u8], at: usize) -> u64
     ensures { result ≡ word_at s.now at }
 {
-    if s.len() < 8 {
+    let Some(rest) = s.get(at..) else {
         return 0;
-    }
-    if s.len() - 8 < at {
+    };
+    let Some(bytes) = rest.first_chunk() else {
         return 0;
+    };
+    u64::from_le_bytes(*bytes)
+}
+
+// The bytes, at a place where all of them fit; else nothing is written.
+pub fn place(out: &mut [u8], at: usize, bytes: &[u8])
+    ensures { out.new ≡ placed out.old at bytes.now }
+{
+    let n = bytes.len();
+    if n <= out.len() && at <= out.len() - n {
+        out[at..at + n].copy_from_slice(bytes);
     }
-    let mut w: u64 = 0;
-    let mut i: usize = 8;
-    while 0 < i {
-        i -= 1;
-        w = w * 256 + wide(s[at + i]);
-    }
-    w
 }
 
 // The 8 bytes of n, little-endian, at a place where all of them fit; else nothing is written.
+#[tactic(auto, using(crate::proofs::Stored::le_bytes))]
 pub fn put_word(out: &mut [u8], at: usize, n: u64)
     ensures { out.new ≡ placed out.old at (bytes_of 8 n) }
 {
-    if out.len() < 8 {
-        return;
-    }
-    if out.len() - 8 < at {
-        return;
-    }
-    let mut w = n;
-    let mut to = at;
-    let mut k: u32 = 8;
-    while 0 < k {
-        k -= 1;
-        out[to] = (w % 256) as u8;
-        to += 1;
-        w = w / 256;
-    }
+    place(out, at, &n.to_le_bytes());
 }
 
 // A space and the 16 hex digits of n, at a place where all 17 bytes fit; else nothing is written.
 pub fn put_group(out: &mut [u8], at: usize, n: u64)
     ensures { out.new ≡ placed out.old at (group n) }
 {
-    if out.len() < 17 {
-        return;
+    let mut text = [b' '; 17];
+    for k in 0..16 {
+        text[k + 1] = digit(((n >> (60 - 4 * k)) % 16) as u8);
     }
-    if out.len() - 17 < at {
-        return;
-    }
-    out[at] = b' ';
-    let mut to = at + 1;
-    let mut k: u32 = 16;
-    while 0 < k {
-        k -= 1;
-        out[to] = digit(n >> (4 * k));
-        to += 1;
-    }
+    place(out, at, &text);
 }
 
-fn wide(x: u8) -> u64
-    ensures value { result ≡ x }
-    ensures upper_bound { result < 256 }
+// The two lower-case hex digits of a byte.
+pub fn digits(b: u8) -> [u8; 2]
+    ensures { result ≡ digit_of (b / 16) ∷ digit_of (b % 16) ∷ [] }
 {
-    x as u64
+    [digit(b / 16), digit(b % 16)]
 }
 
-// The lower-case digit of the four low bits of n.
-fn digit(n: u64) -> u8
-    ensures { result ≡ digit_of (n % 16) }
+// The digit of a number below 16.
+#[tactic(auto, using(float::proofs::Choice::branches), unfolding(crate::specs::Digits::digit_of))]
+fn digit(d: u8) -> u8
+    requires { d < 16 }
+    ensures { result ≡ digit_of d }
 {
-    let d = (n % 16) as u8;
     if d < 10 { b'0' + d } else { b'a' - 10 + d }
 }

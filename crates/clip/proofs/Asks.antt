@@ -1,4 +1,5 @@
 -- The places at which a cut asks the line, and the values that it asks for there. What holds of every place holds of the sides that are asked at; from the edge's own box, or a part of it, those lie in that box, since what is left of it stays a part of it.
+use Rattle.std.specs.Prelude.{Option, Some, None}
 use mathlib.Core.Path.{◌≡◌, refl, ap}
 use mathlib.Core.Bool.{Bool, true, false, not}
 use mathlib.Core.List.{List, [], ◌∷◌, ◌++◌, append_assoc, map, map-append}
@@ -7,14 +8,13 @@ use Rattle.float.specs.Choice.{when◌then◌else◌}
 use Rattle.float.proofs.Choice.{cases, and_parts, and_both}
 use Rattle.plane.specs.Interval.{between, end_of}
 use Rattle.plane.specs.Rect.{box_of}
-use Rattle.plane.specs.Within.{In, Some, Part, SomeRect, PartRect}
+use Rattle.plane.specs.Within.{In, Part, SomeRect, PartRect}
+use Rattle.plane.specs.Within as within
 use Rattle.plane.specs.declared.point.Point.{Point}
 use Rattle.plane.specs.declared.interval.Interval.{Interval}
 use Rattle.plane.specs.declared.rect.Rect.{Rect}
 use Rattle.plane.proofs.Parts.{part_trans, part_in}
 use Rattle.clip.specs.declared.compute.Both.{Both}
-use Rattle.clip.specs.declared.compute.AxisCut.{AxisCut}
-use Rattle.clip.specs.declared.compute.AxisCut.TheVariants.{Left, Gone}
 use Rattle.clip.specs.Cut.{negative_slope, value_at, inward, with_end, moved_end, other_moved, side_cut, then_high, axis_cut, after_y, after_x, then_y, box_cut}
 use Rattle.clip.specs.Values.{every, side_places, high_places, axis_places, y_places, places_on_x, places_on_y, axis_asks, asks_on_x, asks_on_y, box_asks}
 use Rattle.clip.proofs.Sides.{up_to, inward_up, not_inward, up_num, end_num}
@@ -36,7 +36,7 @@ abbrev pub Asked : Bool → Interval → Interval → Type 0
 Asked d i w = (inward d (end_of w d) (end_of i d) ≡ true) × (inward d (end_of w d) (end_of i (not d)) ≡ false)
 
 -- so it lies in i
-pub asked_in : (d : Bool) (i w : Interval) → Some i → Asked d i w → In i (end_of w d)
+pub asked_in : (d : Bool) (i w : Interval) → within.Some i → Asked d i w → In i (end_of w d)
 asked_in d i w some (p, q) =
     let u = inward_up d _ _ p in
     go d (not_inward d _ _ (up_num d _ _ u).0 (end_num i (not d) some) q) u
@@ -57,24 +57,24 @@ module _ (test : Float → Bool) where
 
   axis_places_lem : (a0 b0 : Float) (this : Interval) (a1 b1 : Float) (other : Interval) (neg : Bool) (w : Interval)
       → (Asked false this w → test (end_of w false) ≡ true)
-      → ((s : Both) → side_cut false a0 b0 this a1 b1 other neg w ≡ Left s → Asked true s.this w → test (end_of w true) ≡ true)
+      → ((s : Both) → side_cut false a0 b0 this a1 b1 other neg w ≡ Some s → Asked true s.this w → test (end_of w true) ≡ true)
       → every test (axis_places a0 b0 this a1 b1 other neg w) ≡ true
   unfolding axis_places
   axis_places_lem a0 b0 this a1 b1 other neg w l h = every_both test _ _ (side_places_lem false this w l) (go (side_cut false a0 b0 this a1 b1 other neg w) refl)
     where
-      go : (m : AxisCut) → side_cut false a0 b0 this a1 b1 other neg w ≡ m → every test (high_places w m) ≡ true
-      go (Left s) e = unfold high_places in side_places_lem true s.this w (h s e)
-      go Gone e = unfold high_places every in refl
+      go : (m : Option Both) → side_cut false a0 b0 this a1 b1 other neg w ≡ m → every test (high_places w m) ≡ true
+      go (Some s) e = unfold high_places in side_places_lem true s.this w (h s e)
+      go None e = unfold high_places every in refl
 
   y_places_lem : (a b : Point) (w r : Rect)
-      → ((s : Both) → axis_cut a.x b.x r.x a.y b.y r.y (negative_slope a b) w.x ≡ Left s
+      → ((s : Both) → axis_cut a.x b.x r.x a.y b.y r.y (negative_slope a b) w.x ≡ Some s
       → every test (axis_places a.y b.y s.other a.x b.x s.this (negative_slope a b) w.y) ≡ true)
       → every test (places_on_y a b w r) ≡ true
   y_places_lem a b w r k = go (axis_cut a.x b.x r.x a.y b.y r.y (negative_slope a b) w.x) refl
     where
-      go : (m : AxisCut) → axis_cut a.x b.x r.x a.y b.y r.y (negative_slope a b) w.x ≡ m → every test (y_places a b (negative_slope a b) w.y m) ≡ true
-      go (Left s) e = unfold y_places in k s e
-      go Gone e = unfold y_places every in refl
+      go : (m : Option Both) → axis_cut a.x b.x r.x a.y b.y r.y (negative_slope a b) w.x ≡ m → every test (y_places a b (negative_slope a b) w.y m) ≡ true
+      go (Some s) e = unfold y_places in k s e
+      go None e = unfold y_places every in refl
 
   -- ---- any box: what holds at both sides
   pub axis_any : (a0 b0 : Float) (this : Interval) (a1 b1 : Float) (other : Interval) (neg : Bool) (w : Interval)
@@ -82,7 +82,7 @@ module _ (test : Float → Bool) where
   axis_any a0 b0 this a1 b1 other neg w h = axis_places_lem a0 b0 this a1 b1 other neg w (λ p. h false) (λ s e p. h true)
 
   -- ---- a part of the edge's own box: what holds at the sides in that box
-  pub axis_own : (a0 b0 : Float) (this : Interval) (a1 b1 : Float) (other : Interval) (neg : Bool) (w : Interval) → Part this (between a0 b0) → Some w
+  pub axis_own : (a0 b0 : Float) (this : Interval) (a1 b1 : Float) (other : Interval) (neg : Bool) (w : Interval) → Part this (between a0 b0) → within.Some w
       → ((d : Bool) → In (between a0 b0) (end_of w d) → test (end_of w d) ≡ true) → every test (axis_places a0 b0 this a1 b1 other neg w) ≡ true
   axis_own a0 b0 this a1 b1 other neg w part n h =
       axis_places_lem a0 b0 this a1 b1 other neg w (at false this part)
@@ -132,7 +132,7 @@ module _ (a0 b0 a1 b1 c0 d0 c1 d1 : Float) (neg : Bool) (w : Interval) where
       → map (line a0 b0 a1 b1) (side_places d this w) ++ r ≡ map (line c0 d0 c1 d1) (side_places d this w) ++ q
       → (side_cut d a0 b0 this a1 b1 other neg w ≡ side_cut d c0 d0 this c1 d1 other neg w) × (r ≡ q)
   unfolding side_places side_cut
-  side_alike d this other r q e = alike (λ v. other_moved (with_end this d (end_of w d)) (moved_end other (unlike d neg) v)) Gone _ _ _ _ _ _ r q e
+  side_alike d this other r q e = alike (λ v. other_moved (with_end this d (end_of w d)) (moved_end other (unlike d neg) v)) None _ _ _ _ _ _ r q e
 
   axis_alike : (this other : Interval) (r q : List Float) → axis_asks a0 b0 this a1 b1 other neg w ++ r ≡ axis_asks c0 d0 this c1 d1 other neg w ++ q
       → (axis_cut a0 b0 this a1 b1 other neg w ≡ axis_cut c0 d0 this c1 d1 other neg w) × (r ≡ q)
@@ -142,10 +142,10 @@ module _ (a0 b0 a1 b1 c0 d0 c1 d1 : Float) (neg : Bool) (w : Interval) where
       let (k, f) = side_alike false this other _ _ (simp (map-append, append_assoc) at e) in
       rw (← k) (go m (rw (← k) at f))
     where
-      go : (m : AxisCut) → map (line a0 b0 a1 b1) (high_places w m) ++ r ≡ map (line c0 d0 c1 d1) (high_places w m) ++ q
+      go : (m : Option Both) → map (line a0 b0 a1 b1) (high_places w m) ++ r ≡ map (line c0 d0 c1 d1) (high_places w m) ++ q
           → (then_high a0 b0 a1 b1 neg w m ≡ then_high c0 d0 c1 d1 neg w m) × (r ≡ q)
-      go (Left s) e = unfold high_places then_high in side_alike true s.this s.other r q e
-      go Gone e = unfold high_places then_high in (refl, e)
+      go (Some s) e = unfold high_places then_high in side_alike true s.this s.other r q e
+      go None e = unfold high_places then_high in (refl, e)
 
   pub axis_by_asks : (this other : Interval) → axis_asks a0 b0 this a1 b1 other neg w ≡ axis_asks c0 d0 this c1 d1 other neg w
       → axis_cut a0 b0 this a1 b1 other neg w ≡ axis_cut c0 d0 this c1 d1 other neg w
@@ -159,7 +159,7 @@ box_by_asks a b c d w r n e =
     let (k, f) = axis_alike a.x b.x a.y b.y c.x d.x c.y d.y g w.x r.x r.y _ _ (rw (← n) at e) in
     rw (← n, ← k) (go g m (rw (← k) at f))
   where
-    go : (g : Bool) (m : AxisCut) → map (line a.y b.y a.x b.x) (y_places a b g w.y m) ≡ map (line c.y d.y c.x d.x) (y_places c d g w.y m)
+    go : (g : Bool) (m : Option Both) → map (line a.y b.y a.x b.x) (y_places a b g w.y m) ≡ map (line c.y d.y c.x d.x) (y_places c d g w.y m)
         → then_y a b g w.y m ≡ then_y c d g w.y m
-    go g (Left s) e = unfold y_places then_y after_x in ap after_y (axis_by_asks a.y b.y a.x b.x c.y d.y c.x d.x g w.y s.other s.this e)
-    go g Gone e = unfold y_places then_y in refl
+    go g (Some s) e = unfold y_places then_y after_x in ap after_y (axis_by_asks a.y b.y a.x b.x c.y d.y c.x d.x g w.y s.other s.this e)
+    go g None e = unfold y_places then_y in refl

@@ -1,17 +1,17 @@
 -- Where all magnitudes of an edge and a window together are at most the limit, each of them is: nothing is refused.
 use mathlib.Core.Path.{◌≡◌, refl}
-use mathlib.Core.Bool.{true}
+use mathlib.Core.Bool.{true, ◌&&◌}
 use lib.Ieee.{Float, binary64, fits, le}
 use Rattle.float.specs.Float.{◌⊕◌, magnitude_of}
 use Rattle.float.proofs.Choice.{and_both}
 use Rattle.float.proofs.Summands.{Above, magnitude_above, sum_above, summands}
-use Rattle.answer.specs.Answer.{done}
+use Rattle.answer.specs.Refusal.{done}
 use Rattle.plane.specs.declared.point.Point.{Point}
 use Rattle.plane.specs.declared.interval.Interval.{Interval}
 use Rattle.plane.specs.declared.rect.Rect.{Rect}
 use Rattle.clip.specs.Refuse.{limit, coordinate, side, sides_fine, window_fine, edge_refusal}
 use Rattle.clip.specs.Values.{every, HandedIn, floats_of}
-use Rattle.clip.proofs.Numbers.{fine_from}
+use Rattle.clip.proofs.Numbers.{fine_from, and_true}
 
 -- x can be handed in
 pub record Fit (x : Float) : Type 0 where
@@ -76,10 +76,12 @@ all_handed a b w t =
     (and_both _ _ t.x_low.holds (and_both _ _ t.x_high.holds (and_both _ _ t.y_low.holds (and_both _ _ t.y_high.holds refl)))))))
 
 pub at_once : (a b : Point) (w : Rect) → AllFit a b w
-    → le ((two_sizes a.x b.x ⊕ two_sizes w.x.lo w.y.lo) ⊕ (two_sizes a.y b.y ⊕ two_sizes w.x.hi w.y.hi)) limit ≡ true
-    → le w.x.lo w.x.hi ≡ true → le w.y.lo w.y.hi ≡ true → edge_refusal a b w ≡ done
+    → (le ((two_sizes a.x b.x ⊕ two_sizes w.x.lo w.y.lo) ⊕ (two_sizes a.y b.y ⊕ two_sizes w.x.hi w.y.hi)) limit && le w.x.lo w.x.hi && le w.y.lo w.y.hi) ≡ true
+    → edge_refusal a b w ≡ done
 unfolding coordinate window_fine
-at_once a b w t h ox oy =
+at_once a b w t e =
+    let (rest, oy) = and_true _ _ e in
+    let (h, ox) = and_true _ _ rest in
     let (low, high) = summands _ _ (four_above t.ax t.bx t.x_low t.y_low) (four_above t.ay t.by t.x_high t.y_high) 500 h in
     let ((wax, wbx), (wxl, wyl)) = four_within t.ax t.bx t.x_low t.y_low low in
     let ((way, wby), (wxh, wyh)) = four_within t.ay t.by t.x_high t.y_high high in

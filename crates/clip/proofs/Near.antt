@@ -1,5 +1,7 @@
 -- What specs/Near.antt promises, proved: proofs/NearLine.antt at binary64, for values that are not refused.
-use mathlib.Core.Path.{◌≡◌, refl, sym, subst}
+use Rattle.std.specs.Prelude.{Some, Ok}
+use Rattle.clip.specs.declared.Segment.{Segment}
+use mathlib.Core.Path.{◌≡◌, refl, ap}
 use mathlib.Core.Logic.{◌⊎◌, inl, inr}
 use mathlib.Core.Bool.{Bool, true, false, not}
 use mathlib.Core.List.{[], ◌∷◌}
@@ -18,24 +20,21 @@ use Rattle.float.proofs.Order as Order
 use Rattle.float.proofs.Order.{finite_num, lt_le, not_lt, le_trans as le_chain}
 use Rattle.float.proofs.Apart.{size_between}
 use Rattle.float.proofs.UpTo.{UpTo, power_units, test_up_to, power_le, up_to_test}
-use Rattle.answer.specs.Answer.{done, beside}
+use Rattle.answer.specs.Refusal.{number, value_or, done}
 use Rattle.plane.specs.Interval.{lesser, greater, between, holds, end_of}
 use Rattle.plane.specs.Rect.{box_of}
 use Rattle.plane.specs.Within.{In}
 use Rattle.plane.specs.declared.point.Point.{Point}
 use Rattle.plane.specs.declared.rect.Rect.{Rect}
 use Rattle.plane.proofs.Between.{between_ends}
-use Rattle.clip.specs.declared.compute.BoxCut.{BoxCut}
-use Rattle.clip.specs.declared.compute.BoxCut.TheVariants.{Inside, Outside}
-use Rattle.clip.specs.declared.Clipped.{Clipped}
 use Rattle.clip.specs.Cut.{negative_slope, on_line, held_in, value_at, box_cut}
 use Rattle.clip.specs.Refuse.{coordinate, plane_refusal, point_fine, window_fine, value_refusal}
-use Rattle.clip.specs.Answers.{ends, whole, edge_answer, clipped, number_of, points_of, first_of, second_of, value_or_refusal}
+use Rattle.clip.specs.Answers.{ends, whole, clipped, first_of, second_of, value_or_refusal}
 use Rattle.clip.specs.Values.{every, HandedIn, floats_of, tiny}
 use Rattle.clip.specs.Near.{power, least, narrow, within, width, off_times, near, NearAsks, KeptFrom, tiny_three, half, worst_x, worst_a, worst_b, worst_a1, worst_b1, NearLine}
 use Rattle.clip.specs.Promises.{Fine}
-use Rattle.clip.proofs.Cases.{fine_clipped}
-use Rattle.clip.proofs.Numbers.{fine_from, fine_parts, numbers}
+use Rattle.clip.proofs.Cases.{then_rest, kept_cases}
+use Rattle.clip.proofs.Numbers.{fine_from, fine_parts}
 use Rattle.clip.proofs.FromEnd.{Along}
 use Rattle.clip.proofs.Held.{Fit, along}
 use Rattle.clip.proofs.Lines.{Ahead}
@@ -92,7 +91,7 @@ far_enough : (a b : Float) → least ≤ width a b → narrow ≤ width a b
 far_enough a b h = le_trans (lit≤ tt) h
 
 near_line : (x a b a1 b1 : Float) → HandedIn (x ∷ a ∷ b ∷ a1 ∷ b1 ∷ []) → every (within 0) (a ∷ b ∷ a1 ∷ b1 ∷ []) ≡ true → In (between a b) x → least ≤ width a b
-    → ((value_or_refusal x a b a1 b1).number ≡ done) × (near 0 (value_or_refusal x a b a1 b1).value x a b a1 b1 ≡ true)
+    → (number (value_or_refusal x a b a1 b1) ≡ 0) × (near 0 (value_or zero_f (value_or_refusal x a b a1 b1)) x a b a1 b1 ≡ true)
 near_line x a b a1 b1 h w i l =
     let (fx, (fa, (fb, (fa1, (fb1, z))))) = each _ _ h in
     let (wa, (wb, (wa1, (wb1, y)))) = each _ _ w in
@@ -100,10 +99,10 @@ near_line x a b a1 b1 h w i l =
     let wx = between_within 0 x a b fx (within_units few a fa wa) (within_units few b fb wb) i in
     let c : (y : Float) → within 0 y ≡ true → coordinate y ≡ true = within_coordinate few in
     let r : value_refusal x a b a1 b1 ≡ done = fine_from _ _ (and_both _ _ (c x wx) (and_both _ _ (and_both _ _ (c a wa) (c b wb)) (and_both _ _ (c a1 wa1) (c b1 wb1)))) refl in
-    (r, told x a b a1 b1 h (λ (v : Float). near 0 v x a b a1 b1 ≡ true) r (λ m. close_near 0 _ x a b a1 b1 (value_close m i 0 (within_units few a1 fa1 wa1) (within_units few b1 fb1 wb1) (far_enough a b l))))
+    (ap number (then_rest _ (Ok (value_at x a b a1 b1)) r), told x a b a1 b1 h (λ (v : Float). near 0 v x a b a1 b1 ≡ true) r (λ m. close_near 0 _ x a b a1 b1 (value_close m i 0 (within_units few a1 fa1 wa1) (within_units few b1 fb1 wb1) (far_enough a b l))))
 
 nearer_line : (k : ℕ) → k ≤ 500 → (x a b a1 b1 : Float) → HandedIn (x ∷ a ∷ b ∷ a1 ∷ b1 ∷ []) → value_refusal x a b a1 b1 ≡ done → every (within k) (a1 ∷ b1 ∷ []) ≡ true
-    → In (between a b) x → narrow ≤ width a b → off_times (value_or_refusal x a b a1 b1).value x a b a1 b1 * 2 ^ 56 ≤ width a b * (49 * power k)
+    → In (between a b) x → narrow ≤ width a b → off_times (value_or zero_f (value_or_refusal x a b a1 b1)) x a b a1 b1 * 2 ^ 56 ≤ width a b * (49 * power k)
 nearer_line k few x a b a1 b1 h r w i l =
     let (fx, (fa, (fb, (fa1, (fb1, z))))) = each _ _ h in
     let (wa1, (wb1, y)) = each _ _ w in
@@ -111,12 +110,12 @@ nearer_line k few x a b a1 b1 h r w i l =
     (λ m. three_quarters (off_times (value_at x a b a1 b1) x a b a1 b1) (width a b) (power k) (2 ^ 53) (2 ^ 56) refl (value_close m i k (within_units few a1 fa1 wa1) (within_units few b1 fb1 wb1) l))
 
 -- ---- two cases, computed
-width_needed : (value_or_refusal tiny zero_f tiny_three zero_f half ≡ record { number = done; value = zero_f }) × (near 0 zero_f tiny zero_f tiny_three zero_f half ≡ false)
-unfolding of_bits add sub mul div neg lt le eq when◌then◌else◌ magnitude_of sign_bit mag coordinate plane_refusal beside holds lesser greater between on_line held_in value_at near
+width_needed : (value_or_refusal tiny zero_f tiny_three zero_f half ≡ Ok zero_f) × (near 0 zero_f tiny zero_f tiny_three zero_f half ≡ false)
+unfolding of_bits add sub mul div neg lt le eq when◌then◌else◌ magnitude_of sign_bit mag coordinate plane_refusal holds lesser greater between on_line held_in value_at near
 width_needed = (refl, refl)
 
-worst_seen : leb (off_times (value_or_refusal worst_x worst_a worst_b worst_a1 worst_b1).value worst_x worst_a worst_b worst_a1 worst_b1 * (100 * 2 ^ 53)) (width worst_a worst_b * (399 * power 0)) ≡ false
-unfolding of_bits add sub mul div neg lt le eq when◌then◌else◌ magnitude_of sign_bit mag coordinate plane_refusal beside holds lesser greater between on_line held_in value_at
+worst_seen : leb (off_times (value_or zero_f (value_or_refusal worst_x worst_a worst_b worst_a1 worst_b1)) worst_x worst_a worst_b worst_a1 worst_b1 * (100 * 2 ^ 53)) (width worst_a worst_b * (399 * power 0)) ≡ false
+unfolding of_bits add sub mul div neg lt le eq when◌then◌else◌ magnitude_of sign_bit mag coordinate plane_refusal holds lesser greater between on_line held_in value_at
 worst_seen = refl
 
 -- ---- clip_edge
@@ -161,7 +160,7 @@ module _ (k : ℕ) (few : k ≤ 500) (a b : Point) (w : Rect) (h : HandedIn (flo
       go true e = let l = lt_le y x e in (ahead_up Q P l, ahead_down P Q l)
       go false e = let l = not_lt y x (finite_num _ Q.is_finite) (finite_num _ P.is_finite) e in (ahead_down Q P l, ahead_up P Q l)
 
-  kept : (r : Rect) → box_cut a b w (box_of a b) ≡ Inside r → let s = ends a b r in KeptFrom k a b w a (first_of s) × KeptFrom k a b w (second_of (whole a b)) (second_of s)
+  kept : (r : Rect) → box_cut a b w (box_of a b) ≡ Some r → let s = ends a b r in KeptFrom k a b w a (first_of s) × KeptFrom k a b w (second_of (whole a b)) (second_of s)
   unfolding negative_slope ends
   kept r e =
       let cx = lt b.x a.x in
@@ -174,18 +173,9 @@ module _ (k : ℕ) (few : k ≤ 500) (a b : Point) (w : Rect) (h : HandedIn (flo
         rw (b_corner a b w h f) at (kept_from k a b w X Y near_x near_y (not cx) (not cy) (inr (bx, by)) _ (box_after a b w (not cx) (not cy) (both_not cx cy) some window r e)),
       )
 
-kept_near : (k : ℕ) → k ≤ 500 → (a b : Point) (w : Rect) → HandedIn (floats_of a b w) → number_of (clipped a b w) ≡ done → every (within k) (a.x ∷ a.y ∷ b.x ∷ b.y ∷ []) ≡ true
-    → let s = points_of (clipped a b w) in KeptFrom k a b w a (first_of s) × KeptFrom k a b w (second_of (whole a b)) (second_of s)
-unfolding edge_answer points_of
-kept_near k few a b w h n wk =
-    let (p, q, inside) = (numbers.clip_edge a b w).zero.0 n in
-    let f = fine_from _ _ p q in
-    subst (λ (c : Clipped). KeptFrom k a b w a (first_of (points_of c)) × KeptFrom k a b w (second_of (whole a b)) (second_of (points_of c))) (sym (fine_clipped a b w f)) (go f (box_cut a b w (box_of a b)) refl inside)
-  where
-    go : Fine a b w → (m : BoxCut) → box_cut a b w (box_of a b) ≡ m → (box_cut a b w (box_of a b) ≡ Outside → ⊥)
-        → let s = points_of (edge_answer a b m) in KeptFrom k a b w a (first_of s) × KeptFrom k a b w (second_of (whole a b)) (second_of s)
-    go f (Inside r) e i = kept k few a b w h f wk r e
-    go f Outside e i = absurd (i e)
+kept_near : (k : ℕ) → k ≤ 500 → (a b : Point) (w : Rect) → HandedIn (floats_of a b w) → every (within k) (a.x ∷ a.y ∷ b.x ∷ b.y ∷ []) ≡ true
+    → (s : Segment) → clipped a b w ≡ Ok s → KeptFrom k a b w a (first_of s) × KeptFrom k a b w (second_of (whole a b)) (second_of s)
+kept_near k few a b w h wk s e = kept_cases a b w s e (λ r f c is. rw (← is) (kept k few a b w h f wk r c))
 
 pub near_the_line : NearLine
 near_the_line = record {

@@ -1,5 +1,8 @@
 -- In the edge's own box a value of the line needs no holding but where it would lose the edge. Past the end that it moves it moves nothing; past the end that stays, held or not,
 -- it loses the edge, unless that end is still the edge's own: there the held value is that end. So the loop over the edge's own box is the cut of the definition.
+use Rattle.std.specs.Prelude.{Option, Some, None, Result}
+use Rattle.clip.specs.declared.Segment.{Segment}
+use Rattle.answer.specs.declared.Refusal.{Refusal}
 use Prim.Native.Nat.{ℕ, zero, suc}
 use mathlib.Core.Path.{◌≡◌, refl, sym, ap, subst, ◌∙◌}
 use mathlib.Core.Bool.{Bool, true, false, not, true≢false}
@@ -9,7 +12,8 @@ use Rattle.float.proofs.Choice.{then_is, else_is, cases, and_parts, and_both}
 use Rattle.float.proofs.Order.{Num, finite_num, le_refl, le_trans, le_eq, lt_le_trans, le_lt_trans, le_not_lt, lt_le, eq_le}
 use Rattle.plane.specs.Interval.{from◌to◌, between, end_of}
 use Rattle.plane.specs.Rect.{box_of}
-use Rattle.plane.specs.Within.{In, Some, Part}
+use Rattle.plane.specs.Within.{In, Part}
+use Rattle.plane.specs.Within as within
 use Rattle.plane.specs.declared.point.Point.{Point}
 use Rattle.plane.specs.declared.interval.Interval.{Interval}
 use Rattle.plane.specs.declared.rect.Rect.{Rect}
@@ -17,15 +21,9 @@ use Rattle.plane.proofs.Parts.{part_refl, part_trans, part_in}
 use Rattle.plane.proofs.Between.{between_in, between_equal, a_end, second_end}
 use Rattle.plane.proofs.Promises.{promises as plane}
 use Rattle.clip.specs.declared.compute.Axis.{Axis}
-use Rattle.clip.specs.declared.compute.Moved.{Moved}
-use Rattle.clip.specs.declared.compute.Moved.TheVariants.{To}
 use Rattle.clip.specs.declared.compute.Both.{Both}
-use Rattle.clip.specs.declared.compute.AxisCut.{AxisCut}
-use Rattle.clip.specs.declared.compute.AxisCut.TheVariants.{Left, Gone}
-use Rattle.clip.specs.declared.compute.BoxCut.{BoxCut}
 use Rattle.clip.specs.Cut.{on_line, held_in, value_at, negative_slope, inward, moved_end, side_with, side_cut, box_cut}
 use Rattle.clip.specs.Turns.{axis_x, axis_y, bounded_by, own_end, stayed, own_moved, line_moved, turn_cut, where_left, sides_cut}
-use Rattle.clip.specs.declared.Clipped.{Clipped}
 use Rattle.clip.specs.Answers.{edge_answer, clipped}
 use Rattle.clip.specs.Promises.{Fine}
 use Rattle.clip.proofs.Sides.{up_to, inward_up, not_inward, up_not, end_num, in_up, in_from, reaches}
@@ -61,13 +59,13 @@ never : {A : Type 0} {b : Bool} → b ≡ true → b ≡ false → A
 never p q = absurd (true≢false (sym p ∙ q))
 
 -- from the end that stays to the end that moves
-across : (d : Bool) (i : Interval) → Some i → up_to d (end_of i (not d)) (end_of i d) ≡ true
+across : (d : Bool) (i : Interval) → within.Some i → up_to d (end_of i (not d)) (end_of i d) ≡ true
 unfolding end_of when◌then◌else◌
 across true i s = s
 across false i s = s
 
 -- ---- a value held in j, as seen from the end d
-held_past : (d : Bool) (j : Interval) (v : Float) → Some j → inward d v (end_of j (not d)) ≡ true → held_in j v ≡ end_of j (not d)
+held_past : (d : Bool) (j : Interval) (v : Float) → within.Some j → inward d v (end_of j (not d)) ≡ true → held_in j v ≡ end_of j (not d)
 unfolding held_in inward end_of when◌then◌else◌
 held_past true j v s p = rw p
 held_past false j v s p = rw (le_not_lt _ _ (le_trans _ _ _ s (lt_le _ _ p)), p)
@@ -81,7 +79,7 @@ held_else false j v P p f g = cases P _ _ _ f (λ k. rw p g)
 
 -- ---- an end of i, a part of j, moved
 module _ (d : Bool) (i j : Interval) (part : Part i j) where
-  some_j : Some j
+  some_j : within.Some j
   some_j = le_trans _ _ _ part.low (le_trans _ _ _ part.some part.high)
 
   -- the ends in their order: of j the one that stays, of i the one that stays and the one that moves, of j the one that moves
@@ -96,7 +94,7 @@ module _ (d : Bool) (i j : Interval) (part : Part i j) where
   moves_up = reaches d i j part
 
   -- a value that is not inward of the end that moves moves nothing
-  moved_none : (v : Float) → up_to d (end_of i d) v ≡ true → moved_end i d v ≡ To i
+  moved_none : (v : Float) → up_to d (end_of i d) v ≡ true → moved_end i d v ≡ Some i
   unfolding moved_end
   moved_none v p = sym (else_is _ _ _ _ (up_not d _ _ (up_trans d _ _ _ (across d i part.some) p)) (else_is _ _ _ _ (up_not d _ _ p) refl))
 
@@ -108,7 +106,7 @@ module _ (d : Bool) (i j : Interval) (part : Part i j) where
 
   module _ (v own : Float) where
     -- where the value is past both ends of i, and where it is not
-    own_cases : (P : Moved → Type 0) → (inward d v (end_of i d) ≡ true → inward d v (end_of i (not d)) ≡ true → P (stayed i d own))
+    own_cases : (P : Option Interval → Type 0) → (inward d v (end_of i d) ≡ true → inward d v (end_of i (not d)) ≡ true → P (stayed i d own))
         → ((inward d v (end_of i d) and inward d v (end_of i (not d))) ≡ false → P (moved_end i d v)) → P (own_moved i d v own)
     unfolding own_moved
     own_cases P f g = cases P _ _ _ (λ e. let (p, q) = and_parts _ _ e in f p q) g
@@ -117,7 +115,7 @@ module _ (d : Bool) (i j : Interval) (part : Part i j) where
     own_held : own ≡ end_of j (not d) → own_moved i d v own ≡ moved_end i d (held_in j v)
     own_held o = go (inward d v (end_of j (not d))) refl
       where
-        Same : Moved → Type 0
+        Same : Option Interval → Type 0
         Same m = m ≡ moved_end i d (held_in j v)
 
         -- past it: lost exactly where i's own end was moved
@@ -143,13 +141,13 @@ module _ (d : Bool) (i j : Interval) (part : Part i j) where
           where
             lost : inward d v (end_of i (not d)) ≡ true → stayed i d own ≡ moved_end i d v
             lost b =
-                unfold stayed in cases (λ (m : Moved). m ≡ moved_end i d v) _ _ _
+                unfold stayed in cases (λ (m : Option Interval). m ≡ moved_end i d v) _ _ _
                 (λ k. never (inward_trans d _ _ _ b (subst (λ (x : Float). up_to d (end_of i (not d)) x ≡ true) o (eq_up d _ _ k))) p)
                 (λ k. unfold moved_end in then_is _ _ _ _ b refl)
 
     -- j is one number: nothing moves
     own_flat : up_to d (end_of j d) (end_of j (not d)) ≡ true → In j own → Num v → own_moved i d v own ≡ moved_end i d (held_in j v)
-    own_flat flat o n = own_cases (λ (m : Moved). m ≡ moved_end i d (held_in j v)) (λ p q. stay ∙ sym held) (λ e. moved_none v (beyond e) ∙ sym held)
+    own_flat flat o n = own_cases (λ (m : Option Interval). m ≡ moved_end i d (held_in j v)) (λ p q. stay ∙ sym held) (λ e. moved_none v (beyond e) ∙ sym held)
       where
         -- every number of j is up from the end that moves, and up to the end that stays
         up : (x : Float) → In j x → up_to d (end_of i d) x ≡ true
@@ -158,10 +156,10 @@ module _ (d : Bool) (i j : Interval) (part : Part i j) where
         down : (x : Float) → In j x → up_to d x (end_of i (not d)) ≡ true
         down x h = up_trans d _ _ _ (up_trans d _ _ _ (in_up d j x h) flat) stays_up
 
-        held : moved_end i d (held_in j v) ≡ To i
+        held : moved_end i d (held_in j v) ≡ Some i
         held = moved_none _ (up _ (held_within j v some_j n))
 
-        stay : stayed i d own ≡ To i
+        stay : stayed i d own ≡ Some i
         stay = unfold stayed in sym (then_is _ _ _ _ (up_eq d _ _ (down own o) (up_trans d _ _ _ (across d i part.some) (up own o))) (sym (moved_none own (up own o))))
 
         beyond : (inward d v (end_of i d) and inward d v (end_of i (not d))) ≡ false → up_to d (end_of i d) v ≡ true
@@ -272,7 +270,7 @@ module _ (high : Bool) (t u : Axis) (n : Bool) (x : Axes t u n) where
       go false q e f = unfold when◌then◌else◌ in rw e
 
   -- what a side leaves is again of the edge's own box
-  turn_axes : (s : Both) → turn_cut false high t u n ≡ Left s → Axes (bounded_by t s.this) (bounded_by u s.other) n
+  turn_axes : (s : Both) → turn_cut false high t u n ≡ Some s → Axes (bounded_by t s.this) (bounded_by u s.other) n
   unfolding turn_cut line_moved when◌then◌else◌
   turn_axes s e =
       let (p, q, r) = side_part high t.a t.b t.bound u.a u.b u.bound n t.clip s x.this.some (finite_num _ (x.at_this high).at_x.value.is_finite) (unfold side_cut in e) in
@@ -292,19 +290,19 @@ sides_same : (k : ℕ) (high : Bool) (t u : Axis) (n : Bool) → Axes t u n → 
 unfolding sides_cut
 sides_same zero high t u n x = refl
 sides_same (suc k) high t u n x =
-    ap (λ (m : AxisCut). where_left m (rest true)) (turn_same high t u n x) ∙ go (λ h v w y. sides_same k h v w n y) (turn_cut false high t u n) refl
+    ap (λ (m : Option Both). where_left m (rest true)) (turn_same high t u n x) ∙ go (λ h v w y. sides_same k h v w n y) (turn_cut false high t u n) refl
   where
-    rest : Bool → Both → BoxCut
+    rest : Bool → Both → Option Rect
     rest own s =
         when high then sides_cut own k false (bounded_by u s.other) (bounded_by t s.this) n
         else sides_cut own k true (bounded_by t s.this) (bounded_by u s.other) n
 
     go : ((h : Bool) (v w : Axis) → Axes v w n → sides_cut true k h v w n ≡ sides_cut false k h v w n)
-        → (m : AxisCut) → turn_cut false high t u n ≡ m → where_left m (rest true) ≡ where_left m (rest false)
-    go fewer (Left s) e =
+        → (m : Option Both) → turn_cut false high t u n ≡ m → where_left m (rest true) ≡ where_left m (rest false)
+    go fewer (Some s) e =
         let y = turn_axes high t u n x s e in
         unfold where_left in rw (fewer false _ _ (swapped _ _ n y), fewer true _ _ y)
-    go fewer Gone e = unfold where_left in refl
+    go fewer None e = unfold where_left in refl
 
 -- ---- the four sides, from the edge's own box
 module _ (a b : Point) (w : Rect) (t : AllFit a b w) (f : Fine a b w) where
@@ -319,8 +317,8 @@ module _ (a b : Point) (w : Rect) (t : AllFit a b w) (f : Fine a b w) where
 
   -- where the slope, the box, the cut and the answer are what calls gave
   pub own_answer : (n : Bool) → n ≡ negative_slope a b → (first : Rect) → first ≡ box_of a b
-      → (m : BoxCut) → m ≡ sides_cut true 4 false (axis_x a b w first) (axis_y a b w first) n
-      → (r : Clipped) → r ≡ edge_answer a b m → r ≡ clipped a b w
+      → (m : Option Rect) → m ≡ sides_cut true 4 false (axis_x a b w first) (axis_y a b w first) n
+      → (r : Result Segment Refusal) → r ≡ edge_answer a b m → r ≡ clipped a b w
   own_answer n en first e m em r er =
       let c : m ≡ sides_cut true 4 false (axis_x a b w (box_of a b)) (axis_y a b w (box_of a b)) (negative_slope a b) = rw (en, e) at em in
       er ∙ ap (edge_answer a b) (c ∙ own_cut) ∙ sym (fine_clipped a b w f)

@@ -1,11 +1,12 @@
 -- An own end of the edge that lies in the window is never moved. On each axis it is one end of the edge's box: the side of the window beyond it cuts nothing,
 -- and the side opposite moves the other end of this axis, and of the other axis the end that is not the own one, to a value that is never past the own one.
+use Rattle.std.specs.Prelude.{Option, Some, None, Ok}
+use Rattle.clip.specs.declared.Segment.{Segment}
 use mathlib.Core.Path.{◌≡◌, refl, sym, ap, subst, ◌∙◌}
 use mathlib.Core.Bool.{Bool, true, false, not, true≢false}
 use lib.Ieee.{Float, lt, eq, unlike}
 use Rattle.float.proofs.Choice.{cases}
 use Rattle.float.proofs.Order.{Num}
-use Rattle.answer.specs.Answer.{done}
 use Rattle.plane.specs.Interval.{between, end_of}
 use Rattle.plane.specs.Rect.{box_of, corner_of}
 use Rattle.plane.specs.Within.{In, Part, InRect, SomeRect}
@@ -14,19 +15,11 @@ use Rattle.plane.specs.declared.interval.Interval.{Interval}
 use Rattle.plane.specs.declared.rect.Rect.{Rect}
 use Rattle.plane.proofs.Parts.{part_refl, part_trans, part_in, equal_in}
 use Rattle.plane.proofs.Between.{a_end, second_end}
-use Rattle.clip.specs.declared.compute.Moved.{Moved}
-use Rattle.clip.specs.declared.compute.Moved.TheVariants.{To, Lost}
 use Rattle.clip.specs.declared.compute.Both.{Both}
-use Rattle.clip.specs.declared.compute.AxisCut.{AxisCut}
-use Rattle.clip.specs.declared.compute.AxisCut.TheVariants.{Left, Gone}
-use Rattle.clip.specs.declared.compute.BoxCut.{BoxCut}
-use Rattle.clip.specs.declared.compute.BoxCut.TheVariants.{Inside, Outside}
 use Rattle.clip.specs.Cut.{negative_slope, value_at, inward, with_end, moved_end, other_moved, side_cut, then_high, axis_cut, after_y, after_x, then_y, box_cut}
 use Rattle.clip.proofs.Sides.{up_to, inward_up, up_not, end_stays, with_part, in_up, in_from}
 use Rattle.clip.proofs.Moves.{side_stays}
-use Rattle.clip.specs.declared.Clipped.{Clipped}
-use Rattle.clip.specs.declared.Clipped.TheVariants.{Kept}
-use Rattle.clip.specs.Answers.{ends, second, whole, edge_answer, clipped, number_of, points_of, first_of, second_of}
+use Rattle.clip.specs.Answers.{ends, second, whole, edge_answer, clipped, first_of, second_of}
 use Rattle.clip.specs.Values.{HandedIn, floats_of}
 use Rattle.clip.specs.Promises.{Fine}
 use Rattle.clip.proofs.Asks.{asked_in}
@@ -36,17 +29,17 @@ use Rattle.clip.proofs.Held.{num_a, num_b, value_between}
 use Rattle.clip.proofs.Values.{along_both, first_some}
 
 -- ---- something is left, and P holds of it
-abbrev Moves : (Interval → Type 0) → Moved → Type 0
-Moves P (To i) = P i
-Moves P Lost = ⊥
+abbrev Moves : (Interval → Type 0) → Option Interval → Type 0
+Moves P (Some i) = P i
+Moves P None = ⊥
 
-abbrev Leaves : (Both → Type 0) → AxisCut → Type 0
-Leaves P (Left s) = P s
-Leaves P Gone = ⊥
+abbrev Leaves : (Both → Type 0) → Option Both → Type 0
+Leaves P (Some s) = P s
+Leaves P None = ⊥
 
-abbrev Keeps : (Rect → Type 0) → BoxCut → Type 0
-Keeps P (Inside r) = P r
-Keeps P Outside = ⊥
+abbrev Keeps : (Rect → Type 0) → Option Rect → Type 0
+Keeps P (Some r) = P r
+Keeps P None = ⊥
 
 -- ---- one axis of the edge, from a to b, of which the end `free` may be moved
 -- what is left of it: a part of a..b whose other end is the own one
@@ -75,10 +68,10 @@ module _ (free free1 neg : Bool) (turn : unlike free neg ≡ free1) (a0 b0 a1 b1
   abbrev BothOwn : Both → Type 0
   BothOwn s = Own free a0 b0 s.this × Own free1 a1 b1 s.other
 
-  other_own : (i : Interval) (m : Moved) → Own free a0 b0 i → Moves (Own free1 a1 b1) m → Leaves BothOwn (other_moved i m)
+  other_own : (i : Interval) (m : Option Interval) → Own free a0 b0 i → Moves (Own free1 a1 b1) m → Leaves BothOwn (other_moved i m)
   unfolding other_moved
-  other_own i (To j) o p = (o, p)
-  other_own i Lost o p = absurd p
+  other_own i (Some j) o p = (o, p)
+  other_own i None o p = absurd p
 
   module _ (this other : Interval) (o : Own free a0 b0 this) (p : Own free1 a1 b1 other) where
     in_window : In w (end_of this (not free))
@@ -114,9 +107,9 @@ module _ (free free1 neg : Bool) (turn : unlike free neg ≡ free1) (a0 b0 a1 b1
   unfolding axis_cut
   axis_own this other o p = go (side_cut false a0 b0 this a1 b1 other neg w) (side_own this other o p false)
     where
-      go : (m : AxisCut) → Leaves BothOwn m → Leaves BothOwn (then_high a0 b0 a1 b1 neg w m)
-      go (Left s) q = unfold then_high in side_own s.this s.other q.0 q.1 true
-      go Gone q = absurd q
+      go : (m : Option Both) → Leaves BothOwn m → Leaves BothOwn (then_high a0 b0 a1 b1 neg w m)
+      go (Some s) q = unfold then_high in side_own s.this s.other q.0 q.1 true
+      go None q = absurd q
 
 -- ---- the box: on axis x the end `dx` may be moved, on axis y the end `dy`
 pub turned : (c d : Bool) → (unlike c (unlike c d) ≡ d) × (unlike d (unlike c d) ≡ c)
@@ -137,13 +130,13 @@ module _ (a b : Point) (w : Rect) (dx dy : Bool) (slope : unlike dx dy ≡ negat
       go _ (axis_own dx dy _ (rw (← slope) (turned dx dy).0) a.x b.x a.y b.y w.x inside.x held_x _ _
       (record { part = part_refl _ some.x; same = refl }) (record { part = part_refl _ some.y; same = refl }))
     where
-      last : (m : AxisCut) → Leaves (λ s. Own dy a.y b.y s.this × Own dx a.x b.x s.other) m → Keeps OwnBox (after_y m)
-      last (Left t) (p, q) = unfold after_y in (q, p)
-      last Gone p = absurd p
+      last : (m : Option Both) → Leaves (λ s. Own dy a.y b.y s.this × Own dx a.x b.x s.other) m → Keeps OwnBox (after_y m)
+      last (Some t) (p, q) = unfold after_y in (q, p)
+      last None p = absurd p
 
-      go : (m : AxisCut) → Leaves (λ s. Own dx a.x b.x s.this × Own dy a.y b.y s.other) m → Keeps OwnBox (then_y a b (negative_slope a b) w.y m)
-      go (Left s) (p, q) = unfold then_y after_x in last _ (axis_own dy dx _ (rw (← slope) (turned dx dy).1) a.y b.y a.x b.x w.y inside.y held_y _ _ q p)
-      go Gone p = absurd p
+      go : (m : Option Both) → Leaves (λ s. Own dx a.x b.x s.this × Own dy a.y b.y s.other) m → Keeps OwnBox (then_y a b (negative_slope a b) w.y m)
+      go (Some s) (p, q) = unfold then_y after_x in last _ (axis_own dy dx _ (rw (← slope) (turned dx dy).1) a.y b.y a.x b.x w.y inside.y held_y _ _ q p)
+      go None p = absurd p
 
 -- ---- the edge: its corner at the ends cx and cy
 twice : (c : Bool) → not (not c) ≡ c
@@ -159,19 +152,19 @@ both_not false false = refl
 module _ (a b : Point) (w : Rect) (h : HandedIn (floats_of a b w)) (f : Fine a b w) where
   -- a corner of the box that is an own end, and in the window
   corner_kept : (cx cy : Bool) → unlike cx cy ≡ negative_slope a b → InRect w (corner_of (box_of a b) cx cy)
-      → (r : Rect) × (clipped a b w ≡ Kept (ends a b r)) × (corner_of r cx cy ≡ corner_of (box_of a b) cx cy)
+      → (r : Rect) × (clipped a b w ≡ Ok (ends a b r)) × (corner_of r cx cy ≡ corner_of (box_of a b) cx cy)
   corner_kept cx cy slope inside =
       let (p, q) = fine_parts _ _ f in
       let (x, y) = along_both a b w h p q in
       go (box_cut a b w (box_of a b)) refl (box_own a b w (not cx) (not cy) (both_not cx cy ∙ slope) (first_some a b w h p q) (rw (twice cx, twice cy) inside) (λ d. value_between (x d)) (λ d. value_between (y d)))
     where
-      go : (m : BoxCut) → box_cut a b w (box_of a b) ≡ m → Keeps (λ r. Own (not cx) a.x b.x r.x × Own (not cy) a.y b.y r.y) m
-          → (r : Rect) × (clipped a b w ≡ Kept (ends a b r)) × (corner_of r cx cy ≡ corner_of (box_of a b) cx cy)
-      go (Inside r) e (o, p) =
+      go : (m : Option Rect) → box_cut a b w (box_of a b) ≡ m → Keeps (λ r. Own (not cx) a.x b.x r.x × Own (not cy) a.y b.y r.y) m
+          → (r : Rect) × (clipped a b w ≡ Ok (ends a b r)) × (corner_of r cx cy ≡ corner_of (box_of a b) cx cy)
+      go (Some r) e (o, p) =
           let x : end_of r.x cx ≡ end_of (between a.x b.x) cx = rw (twice cx) at o.same in
           let y : end_of r.y cy ≡ end_of (between a.y b.y) cy = rw (twice cy) at p.same in
           (r, fine_clipped a b w f ∙ unfold edge_answer in ap (edge_answer a b) e, rw (x, y))
-      go Outside e p = absurd p
+      go None e p = absurd p
 
   nums : (Num a.x × Num b.x) × (Num a.y × Num b.y)
   nums =
@@ -200,14 +193,14 @@ module _ (a b : Point) (w : Rect) (h : HandedIn (floats_of a b w)) (f : Fine a b
   unfolding second
   second_in i x y k = cases (In i) (eq x y) x y (λ e. equal_in i x y e k) (λ e. k)
 
-  pub a_kept : InRect w a → (number_of (clipped a b w) ≡ done) × (first_of (points_of (clipped a b w)) ≡ a)
-  unfolding negative_slope ends number_of points_of
+  pub a_kept : InRect w a → (s : Segment) × (clipped a b w ≡ Ok s) × (first_of s ≡ a)
+  unfolding negative_slope ends
   a_kept i =
       let (r, e, k) = corner_kept above_x above_y refl (rw a_corner i) in
-      (ap number_of e, ap (λ (c : Clipped). first_of (points_of c)) e ∙ k ∙ a_corner)
+      (ends a b r, e, k ∙ a_corner)
 
-  pub b_kept : InRect w b → (number_of (clipped a b w) ≡ done) × (second_of (points_of (clipped a b w)) ≡ second_of (whole a b))
-  unfolding negative_slope ends number_of points_of
+  pub b_kept : InRect w b → (s : Segment) × (clipped a b w ≡ Ok s) × (second_of s ≡ second_of (whole a b))
+  unfolding negative_slope ends
   b_kept i =
       let (r, e, k) = corner_kept (not above_x) (not above_y) (both_not above_x above_y) (rw b_corner (record { x = second_in _ _ _ i.x; y = second_in _ _ _ i.y })) in
-      (ap number_of e, ap (λ (c : Clipped). second_of (points_of c)) e ∙ k ∙ b_corner)
+      (ends a b r, e, k ∙ b_corner)

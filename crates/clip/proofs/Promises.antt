@@ -1,52 +1,40 @@
 -- What specs/Promises.antt promises, proved.
-use mathlib.Core.Path.{◌≡◌, refl, sym, ap, ◌∙◌, subst}
+use Rattle.std.specs.Prelude.{Option, Some, None, Ok, Err}
+use Rattle.answer.specs.declared.Refusal.TheVariants.{Missed}
+use Rattle.clip.specs.declared.Segment.{Segment}
+use mathlib.Core.Path.{◌≡◌, refl, ap, ◌∙◌}
 use mathlib.Core.Bool.{Bool, true, false}
-use Prim.Native.Nat.{ℕ}
-use native.Mathlib.Omega.{arith}
-use lib.Dec.{eqb}
-use borrow.Author.Tests.{eqb-true, eqb-false}
 use lib.Ieee.{Float, le}
 use Rattle.float.specs.Choice.{when◌then◌else◌}
 use Rattle.float.specs.Float.{finite}
-use Rattle.float.proofs.Choice.{cases, and_parts, and_both}
+use Rattle.float.proofs.Choice.{and_parts, and_both}
 use Rattle.float.proofs.Order.{Num, finite_num}
 use Rattle.float.proofs.UpTo.{test_finite}
-use Rattle.answer.specs.Answer.{done, missed, beside}
-use Rattle.answer.proofs.Beside.{beside_done}
+use Rattle.answer.specs.Refusal.{number, done}
 use Rattle.plane.specs.Point.{at, difference_of, ortho_of}
 use Rattle.plane.specs.Interval.{end_of, finite_interval}
 use Rattle.plane.specs.Rect.{box_of}
-use Rattle.plane.specs.Answers.{zero_rect, rect_answer}
 use Rattle.plane.specs.Within.{In, Ends, InRect, SomeRect, PartRect, EndsRect, ShareRect}
 use Rattle.plane.specs.declared.point.Point.{Point}
 use Rattle.plane.specs.declared.interval.Interval.{Interval}
 use Rattle.plane.specs.declared.rect.Rect.{Rect}
-use Rattle.plane.specs.declared.rect.RectAnswer.{RectAnswer}
 use Rattle.plane.proofs.Parts.{in_some, part_in, end_in, rect_ends}
 use Rattle.plane.proofs.Between.{between_in, between_ends, a_end, second_end}
 use Rattle.plane.proofs.Shared.{box_share}
-use Rattle.clip.specs.declared.compute.Moved.{Moved}
-use Rattle.clip.specs.declared.compute.Moved.TheVariants.{To, Lost}
-use Rattle.clip.specs.declared.compute.BoxCut.{BoxCut}
-use Rattle.clip.specs.declared.compute.BoxCut.TheVariants.{Inside, Outside}
-use Rattle.clip.specs.declared.Clipped.{Clipped}
-use Rattle.clip.specs.declared.Clipped.TheVariants.{Kept, Missed, Refused}
 use Rattle.clip.specs.Cut.{moved_end, box_cut, off_line, farthest, nearest, edge_meets}
-use Rattle.clip.specs.Refuse.{coordinate, point_fine, bound_fine, window_fine, edge_refusal, bound_refusal}
-use Rattle.clip.specs.Answers.{ends, second, whole, edge_answer, clipped, number_of, points_of, bound_answer, bound_or_refusal, end_answer}
+use Rattle.clip.specs.Refuse.{coordinate, point_fine, bound_fine, window_fine, bound_refusal}
+use Rattle.clip.specs.Answers.{ends, second, whole, or_missed, edge_answer, clipped, points_of, bound_or_refusal}
 use Rattle.clip.specs.Values.{HandedIn, floats_of}
 use Rattle.clip.specs.Promises.{Fine, NoWider, KeptBox, BothIn, Promises}
 use Rattle.clip.proofs.Moves.{Ended, moved_wider, box_inside, box_stays}
 use Rattle.clip.proofs.Numbers.{fine_from, fine_parts, numbers}
 use Rattle.clip.proofs.Values.{fine_some, values}
-use Rattle.clip.proofs.Cases.{fine_clipped}
+use Rattle.clip.proofs.Cases.{then_rest, given, fine_clipped, kept_cases}
 use Rattle.clip.proofs.OwnEnd.{a_kept, b_kept}
 use Rattle.clip.proofs.Near.{near_the_line}
 use Rattle.clip.proofs.Farthest.{is_farthest, is_nearest, nan_says_no}
 
 -- ---- what is not refused is finite, and the window is good
-absurd_number : {A : Type 0} (n : ℕ) → n ≡ 0 → eqb n 0 ≡ false → A
-absurd_number n e f = let z : eqb 0 0 ≡ false = subst (λ (k : ℕ). eqb k 0 ≡ false) e f in let y : ◌≡◌ {A = Bool} true false = z in let x : ◌≡◌ {A = ℕ} 0 1 = cc in absurd (omega arith)
 
 -- both coordinates of a point that is fine are finite
 fine_point : (p : Point) → point_fine p ≡ true → (finite p.x ≡ true) × (finite p.y ≡ true)
@@ -86,34 +74,6 @@ good a b w e =
       by = by;
     }
 
--- ---- what is cut, by its cases: refused, kept or missed
-number_zero : (n : ℕ) → eqb n 0 ≡ true → n ≡ 0
-number_zero n h = eqb-true n 0 h
-
-module _ (P : RectAnswer → Type 0) (a b : Point) (w r : Rect) where
-  -- clip_edge_bound
-  bound_cases : ((k : Rect) → bound_refusal a b w r ≡ done → box_cut a b w r ≡ Inside k → P (rect_answer done k))
-      → P (rect_answer missed zero_rect) → ((n : ℕ) → (n ≡ 0 → ⊥) → P (rect_answer n zero_rect)) → P (bound_or_refusal a b w r)
-  unfolding bound_or_refusal beside bound_answer
-  bound_cases inside outside refused =
-      cases P _ _ _ (λ h. go (box_cut a b w r) refl (number_zero (bound_refusal a b w r) h)) (λ h. refused (bound_refusal a b w r) (eqb-false _ 0 h))
-    where
-      go : (m : BoxCut) → box_cut a b w r ≡ m → bound_refusal a b w r ≡ done → P (bound_answer m)
-      go (Inside k) e n = inside k n e
-      go Outside e n = outside
-
-module _ (P : Clipped → Type 0) (a b : Point) (w : Rect) where
-  -- clip_edge
-  edge_cases : ((k : Rect) → Fine a b w → box_cut a b w (box_of a b) ≡ Inside k → P (Kept (ends a b k)))
-      → P Missed → ((n : ℕ) → (n ≡ 0 → ⊥) → P (Refused n)) → P (clipped a b w)
-  unfolding clipped beside edge_answer
-  edge_cases inside outside refused =
-      cases P _ _ _ (λ h. go (box_cut a b w (box_of a b)) refl (number_zero (edge_refusal a b w) h)) (λ h. refused (edge_refusal a b w) (eqb-false _ 0 h))
-    where
-      go : (m : BoxCut) → box_cut a b w (box_of a b) ≡ m → Fine a b w → P (edge_answer a b m)
-      go (Inside k) e n = inside k n e
-      go Outside e n = outside
-
 -- ---- boxes
 fine_ends : (i : Interval) → bound_fine i ≡ true → Ends i
 unfolding coordinate
@@ -127,24 +87,20 @@ fine_box a b w r e =
     let (wx, wy) = and_parts _ _ q in
     (record { x = fine_ends _ x; y = fine_ends _ y }, record { x = fine_some _ wx; y = fine_some _ wy })
 
-kept_cut : (a b : Point) (w r k : Rect) → SomeRect r → bound_refusal a b w r ≡ done → box_cut a b w r ≡ Inside k → KeptBox w r k
+kept_cut : (a b : Point) (w r k : Rect) → SomeRect r → bound_refusal a b w r ≡ done → box_cut a b w r ≡ Some k → KeptBox w r k
 kept_cut a b w r k s n e =
     let (l, o) = fine_box a b w r n in
     let (p, q) = box_inside a b w r k s o e in
     record { in_window = p; in_first_lem = q; finite_ends = rect_ends k r q l }
 
-kept_box : (a b : Point) (w r : Rect) → SomeRect r → (bound_or_refusal a b w r).number ≡ done → KeptBox w r (bound_or_refusal a b w r).rect
-unfolding beside when◌then◌else◌
-kept_box a b w r s =
-    bound_cases (λ c. c.number ≡ done → KeptBox w r c.rect) a b w r (λ k n h e. kept_cut a b w r k s n h) (λ e. absurd_number 1 e refl) (λ n f e. absurd (f e))
+kept_box : (a b : Point) (w r : Rect) → SomeRect r → (k : Rect) → bound_or_refusal a b w r ≡ Ok k → KeptBox w r k
+kept_box a b w r s k e = given _ _ k e (λ n h. kept_cut a b w r k s n h)
 
-fine_bound : (a b : Point) (w r : Rect) → bound_refusal a b w r ≡ done → bound_or_refusal a b w r ≡ bound_answer (box_cut a b w r)
-unfolding bound_or_refusal
-fine_bound a b w r n = sym (beside_done _ _ _ n)
+fine_bound : (a b : Point) (w r : Rect) → bound_refusal a b w r ≡ done → bound_or_refusal a b w r ≡ or_missed (box_cut a b w r)
+fine_bound a b w r n = then_rest _ _ n
 
-inside_box : (a b : Point) (w r : Rect) → bound_refusal a b w r ≡ done → PartRect r w → bound_or_refusal a b w r ≡ rect_answer done r
-unfolding bound_answer
-inside_box a b w r n p = fine_bound a b w r n ∙ ap bound_answer (box_stays a b w r p)
+inside_box : (a b : Point) (w r : Rect) → bound_refusal a b w r ≡ done → PartRect r w → bound_or_refusal a b w r ≡ Ok r
+inside_box a b w r n p = fine_bound a b w r n ∙ ap or_missed (box_stays a b w r p)
 
 -- a kept box has a point, and it is one of both
 kept_shares : (w r k : Rect) → KeptBox w r k → ShareRect r w
@@ -153,16 +109,15 @@ kept_shares w r k q = (_, corner_in r q.in_first_lem, corner_in w q.in_window)
     corner_in : (o : Rect) → PartRect k o → InRect o (at (end_of k.x false) (end_of k.y false))
     corner_in o p = record { x = part_in _ _ _ p.x (end_in k.x false p.x.some); y = part_in _ _ _ p.y (end_in k.y false p.y.some) }
 
-apart_cut : (a b : Point) (w r : Rect) → bound_refusal a b w r ≡ done → SomeRect r → (ShareRect r w → ⊥) → box_cut a b w r ≡ Outside
+apart_cut : (a b : Point) (w r : Rect) → bound_refusal a b w r ≡ done → SomeRect r → (ShareRect r w → ⊥) → box_cut a b w r ≡ None
 apart_cut a b w r n s f = go (box_cut a b w r) refl
   where
-    go : (m : BoxCut) → box_cut a b w r ≡ m → box_cut a b w r ≡ Outside
-    go (Inside k) e = absurd (f (kept_shares w r k (kept_cut a b w r k s n e)))
-    go Outside e = e
+    go : (m : Option Rect) → box_cut a b w r ≡ m → box_cut a b w r ≡ None
+    go (Some k) e = absurd (f (kept_shares w r k (kept_cut a b w r k s n e)))
+    go None e = e
 
-apart_box : (a b : Point) (w r : Rect) → bound_refusal a b w r ≡ done → SomeRect r → (ShareRect r w → ⊥) → (bound_or_refusal a b w r).number ≡ missed
-unfolding bound_answer
-apart_box a b w r n s f = ap (λ (c : RectAnswer). c.number) (fine_bound a b w r n ∙ ap bound_answer (apart_cut a b w r n s f))
+apart_box : (a b : Point) (w r : Rect) → bound_refusal a b w r ≡ done → SomeRect r → (ShareRect r w → ⊥) → bound_or_refusal a b w r ≡ Err Missed
+apart_box a b w r n s f = fine_bound a b w r n ∙ ap or_missed (apart_cut a b w r n s f)
 
 -- ---- the box of A and B: its sides are coordinates of A and B
 first_box : (a b : Point) (w : Rect) → Fine a b w → SomeRect (box_of a b) × (bound_refusal a b w (box_of a b) ≡ done)
@@ -183,36 +138,36 @@ ends_in a b w k p =
     let y : (d : Bool) → In w.y (end_of k.y d) = λ d. part_in _ _ _ p.y (end_in k.y d p.y.some) in
     record { a = record { x = x _; y = y _ }; b = record { x = x _; y = y _ } }
 
-kept_points : (a b : Point) (w : Rect) → number_of (clipped a b w) ≡ done → BothIn w (points_of (clipped a b w)) × BothIn (box_of a b) (points_of (clipped a b w))
-unfolding number_of points_of
-kept_points a b w =
-    edge_cases (λ c. number_of c ≡ done → BothIn w (points_of c) × BothIn (box_of a b) (points_of c)) a b w
-    (λ k f h e.
-    let (s, n) = first_box a b w f in
-    let q = kept_cut a b w (box_of a b) k s n h in
-    (ends_in a b w k q.in_window, ends_in a b (box_of a b) k q.in_first_lem))
-    (λ e. absurd_number 1 e refl) (λ n f e. absurd (f e))
+kept_points : (a b : Point) (w : Rect) (s : Segment) → clipped a b w ≡ Ok s → BothIn w s × BothIn (box_of a b) s
+kept_points a b w s e =
+    kept_cases a b w s e (λ k f h is.
+    let (o, n) = first_box a b w f in
+    let q = kept_cut a b w (box_of a b) k o n h in
+    rw (← is) (ends_in a b w k q.in_window, ends_in a b (box_of a b) k q.in_first_lem))
 
-zero_kept : (a b : Point) (w : Rect) → number_of (clipped a b w) ≡ done → clipped a b w ≡ Kept (points_of (clipped a b w))
-unfolding number_of points_of
-zero_kept a b w = edge_cases (λ c. number_of c ≡ done → c ≡ Kept (points_of c)) a b w (λ k f h e. refl) (λ e. absurd_number 1 e refl) (λ n f e. absurd (f e))
+zero_kept : (a b : Point) (w : Rect) → number (clipped a b w) ≡ 0 → clipped a b w ≡ Ok (points_of (clipped a b w))
+zero_kept a b w e = let (p, q, some) = (numbers.clip_edge a b w).zero.0 e in go (fine_from _ _ p q) (box_cut a b w (box_of a b)) refl some
+  where
+    go : Fine a b w → (m : Option Rect) → box_cut a b w (box_of a b) ≡ m → (box_cut a b w (box_of a b) ≡ None → ⊥) → clipped a b w ≡ Ok (points_of (clipped a b w))
+    go f (Some k) h some = let c : clipped a b w ≡ Ok (ends a b k) = fine_clipped a b w f ∙ unfold edge_answer in ap (edge_answer a b) h in rw c
+    go f None h some = absurd (some h)
 
 -- the ends of the first box are the edge's own
 whole_is : (a b : Point) (w : Rect) → Good a b w → ends a b (box_of a b) ≡ whole a b
 unfolding ends second
 whole_is a b w g = rw (a_end a.x b.x, a_end a.y b.y, second_end a.x b.x (finite_num _ g.ax) (finite_num _ g.bx), second_end a.y b.y (finite_num _ g.ay) (finite_num _ g.by))
 
-pub inside_clipped : (a b : Point) (w : Rect) → Fine a b w → PartRect (box_of a b) w → clipped a b w ≡ Kept (whole a b)
+pub inside_clipped : (a b : Point) (w : Rect) → Fine a b w → PartRect (box_of a b) w → clipped a b w ≡ Ok (whole a b)
 unfolding edge_answer
-inside_clipped a b w f p = fine_clipped a b w f ∙ ap (edge_answer a b) (box_stays a b w (box_of a b) p) ∙ ap Kept (whole_is a b w (good a b w f))
+inside_clipped a b w f p = fine_clipped a b w f ∙ ap (edge_answer a b) (box_stays a b w (box_of a b) p) ∙ ap Ok (whole_is a b w (good a b w f))
 
-pub apart_clipped : (a b : Point) (w : Rect) → Fine a b w → (ShareRect (box_of a b) w → ⊥) → clipped a b w ≡ Missed
+pub apart_clipped : (a b : Point) (w : Rect) → Fine a b w → (ShareRect (box_of a b) w → ⊥) → clipped a b w ≡ Err Missed
 unfolding edge_answer
 apart_clipped a b w f h = let (s, n) = first_box a b w f in fine_clipped a b w f ∙ ap (edge_answer a b) (apart_cut a b w (box_of a b) n s h)
 
 -- ---- a moved end
-never_wider : (i : Interval) (high : Bool) (v : Float) → finite_interval i ≡ true → (end_answer (moved_end i high v)).number ≡ done → NoWider (end_answer (moved_end i high v)).interval i
-never_wider i high v f = go (moved_end i high v) refl
+never_wider : (i : Interval) (high : Bool) (v : Float) → finite_interval i ≡ true → (j : Interval) → moved_end i high v ≡ Some j → NoWider j i
+never_wider i high v f j e = moved_wider i j high v nums e
   where
     ends : (finite i.lo ≡ true) × (finite i.hi ≡ true)
     ends = unfold finite_interval in and_parts _ _ f
@@ -220,10 +175,6 @@ never_wider i high v f = go (moved_end i high v) refl
     nums : Ended i
     nums true = unfold end_of when◌then◌else◌ in finite_num i.hi ends.1
     nums false = unfold end_of when◌then◌else◌ in finite_num i.lo ends.0
-
-    go : (m : Moved) → moved_end i high v ≡ m → (end_answer m).number ≡ done → NoWider (end_answer m).interval i
-    go (To j) e n = unfold end_answer beside when◌then◌else◌ in moved_wider i j high v nums e
-    go Lost e n = unfold end_answer in absurd_number 1 n refl
 
 -- ---- the corners
 corners_between : (a b : Point) (r : Rect) → HandedIn (floats_of a b r) → Fine a b r → (i j : Bool)
@@ -235,7 +186,7 @@ corners_between a b r h f i j =
     (is_farthest n a r s (num _ _) i j (num i j), is_nearest n a r s (num _ _) i j (num i j))
 
 pub promises : Promises
-unfolding edge_meets number_of points_of end_answer
+unfolding edge_meets
 promises = record {
   numbers = numbers;
   values = values;
@@ -247,10 +198,10 @@ promises = record {
   apart_box = apart_box;
   kept_points = kept_points;
   zero_kept = zero_kept;
-  inside_kept = λ a b w f p. let e = inside_clipped a b w f p in (ap number_of e, ap points_of e);
+  inside_kept = inside_clipped;
   a_kept = a_kept;
   b_kept = b_kept;
-  apart_missed = λ a b w f n. ap number_of (apart_clipped a b w f n);
+  apart_missed = apart_clipped;
   meets_share = λ a b r e. box_share r a b (and_parts _ _ e).0;
   is_farthest = is_farthest;
   is_nearest = is_nearest;

@@ -1,22 +1,20 @@
 -- What specs/Values.antt promises, proved: what is not refused is at most 2 ^ 500 in size, and of such values proofs/Held.antt and proofs/OffLine.antt tell.
+use Rattle.std.specs.Prelude.{Ok, Err}
 use mathlib.Core.Path.{◌≡◌, refl, sym, ap, subst, ◌∙◌}
 use mathlib.Core.Bool.{Bool, true, false, not}
 use mathlib.Core.List.{List, [], ◌∷◌}
 use native.Mathlib.Omega.{arith}
-use lib.Dec.{eqb}
-use borrow.Author.Tests.{eqb-true}
 use lib.Ieee.{Float, inf, binary64, add, sub, mul, div, neg, lt, le, eq, fits, is_nan, of_bits}
 use Rattle.float.specs.Choice.{when◌then◌else◌, ◌and◌}
 use Rattle.float.specs.Float.{zero_f, one_f, finite, magnitude_of}
-use Rattle.float.proofs.Choice.{cases, and_parts}
+use Rattle.float.proofs.Choice.{and_parts}
 use Rattle.float.proofs.Order.{Num, finite_num}
 use Rattle.float.proofs.UpTo.{test_up_to}
-use Rattle.answer.specs.Answer.{done, missed, beside}
-use Rattle.answer.proofs.Beside.{beside_done}
+use Rattle.answer.specs.Refusal.{value_or, done}
+use Rattle.answer.specs.declared.Refusal.TheVariants.{Missed}
 use Rattle.plane.specs.Point.{difference_of, ortho_of}
 use Rattle.plane.specs.Interval.{from◌to◌, holds, lesser, greater, between, end_of}
 use Rattle.plane.specs.Rect.{box_of}
-use Rattle.plane.specs.Answers.{zero_interval}
 use Rattle.plane.specs.Within.{In, Some, Part, SomeRect, PartRect}
 use Rattle.plane.specs.declared.point.Point.{Point}
 use Rattle.plane.specs.declared.interval.Interval.{Interval}
@@ -26,8 +24,9 @@ use Rattle.plane.proofs.Promises.{promises as plane}
 use Rattle.plane.proofs.Between.{between_in}
 use Rattle.clip.specs.Cut.{on_line, value_at, inward, with_end, moved_end, other_moved, side_cut, then_high, axis_cut, off_line}
 use Rattle.clip.specs.Refuse.{coordinate, side, plane_refusal, point_fine, sides_fine, window_fine, axis_refusal, value_refusal}
-use Rattle.clip.specs.Answers.{axes_answer, axis_answer, axis_or_refusal, value_or_refusal}
+use Rattle.clip.specs.Answers.{axis_or_refusal, value_or_refusal}
 use Rattle.clip.specs.Values.{every, number, HandedIn, floats_of, side_places, high_places, axis_places, axis_asks, box_asks, two_f, tiny, OwnAsks, Values}
+use Rattle.clip.proofs.Cases.{then_rest, then_cases}
 use Rattle.clip.proofs.Numbers.{fine_parts}
 use Rattle.clip.proofs.Held.{Small, Fit, num_a, num_b, value_num, value_value, value_level, value_between, value_at_a, value_at_b}
 use Rattle.clip.proofs.OffLine.{off_line_finite}
@@ -76,22 +75,21 @@ module _ (x a b a1 b1 : Float) (h : HandedIn (x ∷ a ∷ b ∷ a1 ∷ b1 ∷ []
       fit (small fx p) (small fa pa) (small fb pb) (small fa1 pa1) (small fb1 pb1)
 
   -- not refused
-  pub told : (P : Float → Type 0) → value_refusal x a b a1 b1 ≡ done → (Fit x a b a1 b1 → P (value_at x a b a1 b1)) → P (value_or_refusal x a b a1 b1).value
-  told P e f = subst P (beside_done _ _ zero_f e) (f (fine e))
+  pub told : (P : Float → Type 0) → value_refusal x a b a1 b1 ≡ done → (Fit x a b a1 b1 → P (value_at x a b a1 b1)) → P (value_or zero_f (value_or_refusal x a b a1 b1))
+  told P e f = subst (λ r. P (value_or zero_f r)) (sym (then_rest _ (Ok (value_at x a b a1 b1)) e)) (f (fine e))
 
   -- or refused: 0 then
-  told_any : (P : Float → Type 0) → P zero_f → (Fit x a b a1 b1 → P (value_at x a b a1 b1)) → P (value_or_refusal x a b a1 b1).value
-  unfolding beside
-  told_any P z f = cases P (eqb (value_refusal x a b a1 b1) done) (value_at x a b a1 b1) zero_f (λ e. f (fine (eqb-true _ 0 e))) (λ e. z)
+  told_any : (P : Float → Type 0) → P zero_f → (Fit x a b a1 b1 → P (value_at x a b a1 b1)) → P (value_or zero_f (value_or_refusal x a b a1 b1))
+  told_any P z f = then_cases (λ r. P (value_or zero_f r)) _ _ (λ e. f (fine e)) (λ e. z)
 
 zero_finite : finite zero_f ≡ true
 unfolding of_bits finite
 zero_finite = refl
 
-never_nan : (x a b a1 b1 : Float) → HandedIn (x ∷ a ∷ b ∷ a1 ∷ b1 ∷ []) → is_nan (value_or_refusal x a b a1 b1).value ≡ false
+never_nan : (x a b a1 b1 : Float) → HandedIn (x ∷ a ∷ b ∷ a1 ∷ b1 ∷ []) → is_nan (value_or zero_f (value_or_refusal x a b a1 b1)) ≡ false
 never_nan x a b a1 b1 h = told_any x a b a1 b1 h Num (finite_num _ zero_finite) (λ m. value_num m)
 
-finite_between : (x a b a1 b1 : Float) → HandedIn (x ∷ a ∷ b ∷ a1 ∷ b1 ∷ []) → In (between a b) x → finite (value_or_refusal x a b a1 b1).value ≡ true
+finite_between : (x a b a1 b1 : Float) → HandedIn (x ∷ a ∷ b ∷ a1 ∷ b1 ∷ []) → In (between a b) x → finite (value_or zero_f (value_or_refusal x a b a1 b1)) ≡ true
 finite_between x a b a1 b1 h i = told_any x a b a1 b1 h (λ (v : Float). finite v ≡ true) zero_finite (λ m. (value_value m i).is_finite)
 
 -- ---- the cuts
@@ -163,16 +161,16 @@ module _ (a0 b0 : Float) (i : Interval) (a1 b1 : Float) (j : Interval) (neg : Bo
   axis_own_asks part = rw every_map (axis_own _ a0 b0 i a1 b1 j neg w part (fine_some _ (fine_parts _ _ e).1) (λ d k. (plane.holds_in _ _).1 (value_between (along_one d) k)))
 
 -- ---- two cases, computed
-infinite_elsewhere : value_or_refusal one_f zero_f tiny zero_f one_f ≡ record { number = done; value = inf false }
-unfolding of_bits add sub mul div neg lt le eq when◌then◌else◌ magnitude_of coordinate plane_refusal beside holds lesser greater between on_line value_at
+infinite_elsewhere : value_or_refusal one_f zero_f tiny zero_f one_f ≡ Ok (inf false)
+unfolding of_bits add sub mul div neg lt le eq when◌then◌else◌ magnitude_of coordinate plane_refusal holds lesser greater between on_line value_at
 infinite_elsewhere = refl
 
 infinite_asked : axis_asks zero_f tiny (from zero_f to two_f) zero_f one_f (from zero_f to one_f) false (from one_f to two_f) ≡ inf false ∷ []
 unfolding of_bits add sub mul div neg lt le eq when◌then◌else◌ magnitude_of holds lesser greater between on_line value_at end_of inward with_end moved_end other_moved side_cut side_places high_places axis_places
 infinite_asked = refl
 
-infinite_missed : axis_or_refusal zero_f tiny (from zero_f to two_f) zero_f one_f (from zero_f to one_f) false (from one_f to two_f) ≡ axes_answer missed zero_interval zero_interval
-unfolding of_bits add sub mul div neg lt le eq when◌then◌else◌ magnitude_of holds lesser greater between on_line value_at end_of inward with_end moved_end other_moved side_cut then_high axis_cut coordinate side sides_fine plane_refusal beside axis_answer axis_or_refusal
+infinite_missed : axis_or_refusal zero_f tiny (from zero_f to two_f) zero_f one_f (from zero_f to one_f) false (from one_f to two_f) ≡ Err Missed
+unfolding of_bits add sub mul div neg lt le eq when◌then◌else◌ magnitude_of holds lesser greater between on_line value_at end_of inward with_end moved_end other_moved side_cut then_high axis_cut coordinate side sides_fine plane_refusal
 infinite_missed = refl
 
 pub values : Values
@@ -182,7 +180,7 @@ values = record {
   between_ends = λ x a b a1 b1 h e i. told x a b a1 b1 h (In (between a1 b1)) e (λ m. value_between m i);
   at_a = λ x a b a1 b1 h e f. told x a b a1 b1 h (λ (v : Float). eq v a1 ≡ true) e (λ m. value_at_a m f);
   at_b = λ x a b a1 b1 h e f g. told x a b a1 b1 h (λ (v : Float). eq v b1 ≡ true) e (λ m. value_at_b m f g);
-  level = λ x a b a1 b1 e f. sym (beside_done _ _ zero_f e) ∙ value_level x a b a1 b1 f;
+  level = λ x a b a1 b1 e f. then_rest _ (Ok (value_at x a b a1 b1)) e ∙ ap Ok (value_level x a b a1 b1 f);
   infinite_elsewhere = infinite_elsewhere;
   axis_by_asks = λ a0 b0 a1 b1 c0 d0 c1 d1 this other neg w. axis_by_asks a0 b0 a1 b1 c0 d0 c1 d1 neg w this other;
   box_by_asks = box_by_asks;

@@ -1,21 +1,22 @@
 -- How far off a cut can be: what is given at a cut is within 2 ^ -50 of the exact line. Statements only; proofs/Near.antt has the proofs.
 -- Exact values are whole numbers of 2 ^ -1074, and no rounding stands here.
-use Rattle.std.specs.Prelude.{ℕ, ◌*◌, ◌^◌, ◌≤◌, ◌≡◌, ◌⊎◌, Bool, true, false, not, [], ◌∷◌, ℤ, pos, ◌+ℤ◌, ◌-ℤ◌, ◌*ℤ◌, leb, Float}
+use Rattle.std.specs.Prelude.{ℕ, ◌*◌, ◌^◌, ◌≤◌, ◌≡◌, ◌⊎◌, Bool, true, false, not, [], ◌∷◌, ℤ, pos, ◌+ℤ◌, ◌-ℤ◌, ◌*ℤ◌, leb, Ok, Float}
 use Rattle.std.specs.Float.{fin, binary64}
 use Rattle.std.specs.Float.Ieee.{le, eq, of_bits}
 use Rattle.float.specs.Float.{zero_f, magnitude_of}
 use Rattle.float.specs.Exact.{units}
 use Rattle.float.specs.Errors.{apart}
-use Rattle.answer.specs.Answer.{done}
+use Rattle.answer.specs.Refusal.{number, value_or, done}
 use Rattle.plane.specs.Interval.{between, end_of}
 use Rattle.plane.specs.Rect.{box_of}
 use Rattle.plane.specs.Within.{In}
 use Rattle.plane.specs.declared.point.Point.{Point}
 use Rattle.plane.specs.declared.interval.Interval.{Interval}
 use Rattle.plane.specs.declared.rect.Rect.{Rect}
+use Rattle.clip.specs.declared.Segment.{Segment}
 use Rattle.clip.specs.Cut.{value_at, inward}
 use Rattle.clip.specs.Refuse.{edge_refusal, value_refusal}
-use Rattle.clip.specs.Answers.{whole, clipped, number_of, points_of, first_of, second_of, value_or_refusal}
+use Rattle.clip.specs.Answers.{whole, clipped, first_of, second_of, value_or_refusal}
 use Rattle.clip.specs.Values.{every, HandedIn, floats_of, places_on_x, places_on_y, tiny}
 
 -- ---- exact values
@@ -117,18 +118,18 @@ worst_b1 = of_bits binary64 0x3fef_ffff_ffff_fbfa
 pub record NearLine : Type 0 where
   -- interpolate, of coordinates in -1..1 and ends at least 2 ^ -500 apart: for x from a to b, in either order, the value is within 2 ^ -50 of the line
   pub near_line : (x a b a1 b1 : Float) → HandedIn (x ∷ a ∷ b ∷ a1 ∷ b1 ∷ []) → every (within 0) (a ∷ b ∷ a1 ∷ b1 ∷ []) ≡ true → In (between a b) x → least ≤ width a b
-      → ((value_or_refusal x a b a1 b1).number ≡ done) × (near 0 (value_or_refusal x a b a1 b1).value x a b a1 b1 ≡ true)
+      → (number (value_or_refusal x a b a1 b1) ≡ 0) × (near 0 (value_or zero_f (value_or_refusal x a b a1 b1)) x a b a1 b1 ≡ true)
   -- beyond what was asked: of all that is not refused, with heights up to 2 ^ k and ends at least 2 ^ -1014 apart, it is within 49 * 2 ^ (k - 56), about three quarters of 2 ^ (k - 50)
   pub nearer_line : (k : ℕ) → k ≤ 500 → (x a b a1 b1 : Float) → HandedIn (x ∷ a ∷ b ∷ a1 ∷ b1 ∷ []) → value_refusal x a b a1 b1 ≡ done → every (within k) (a1 ∷ b1 ∷ []) ≡ true
       → In (between a b) x → narrow ≤ width a b
-      → off_times (value_or_refusal x a b a1 b1).value x a b a1 b1 * 2 ^ 56 ≤ width a b * (49 * power k)
+      → off_times (value_or zero_f (value_or_refusal x a b a1 b1)) x a b a1 b1 * 2 ^ 56 ≤ width a b * (49 * power k)
   -- without a least difference it is false: between ends 3 * 2 ^ -1074 apart the product of 1/2 and 2 ^ -1074 is rounded to 0, and the value to 0, where the line has 1/6
-  pub width_needed : (value_or_refusal tiny zero_f tiny_three zero_f half ≡ record { number = done; value = zero_f }) × (near 0 zero_f tiny zero_f tiny_three zero_f half ≡ false)
+  pub width_needed : (value_or_refusal tiny zero_f tiny_three zero_f half ≡ Ok zero_f) × (near 0 zero_f tiny zero_f tiny_three zero_f half ≡ false)
   -- and 2 ^ -53 is false: this error is more than 3.99 of it
-  pub worst_seen : leb (off_times (value_or_refusal worst_x worst_a worst_b worst_a1 worst_b1).value worst_x worst_a worst_b worst_a1 worst_b1 * (100 * 2 ^ 53)) (width worst_a worst_b * (399 * power 0)) ≡ false
+  pub worst_seen : leb (off_times (value_or zero_f (value_or_refusal worst_x worst_a worst_b worst_a1 worst_b1)) worst_x worst_a worst_b worst_a1 worst_b1 * (100 * 2 ^ 53)) (width worst_a worst_b * (399 * power 0)) ≡ false
   -- clip_edge, of coordinates up to 2 ^ k, so for k = 0 in -1..1: each value that is asked for is within 2 ^ (k - 50) of the line
   pub edge_near_asks : (k : ℕ) → k ≤ 500 → (a b : Point) (window : Rect) → HandedIn (floats_of a b window) → edge_refusal a b window ≡ done → every (within k) (a.x ∷ a.y ∷ b.x ∷ b.y ∷ []) ≡ true
       → NearAsks k a b window (box_of a b)
   -- and so is each kept point that was cut, whether once or twice
-  pub kept_near : (k : ℕ) → k ≤ 500 → (a b : Point) (window : Rect) → HandedIn (floats_of a b window) → number_of (clipped a b window) ≡ done → every (within k) (a.x ∷ a.y ∷ b.x ∷ b.y ∷ []) ≡ true
-      → let s = points_of (clipped a b window) in KeptFrom k a b window a (first_of s) × KeptFrom k a b window (second_of (whole a b)) (second_of s)
+  pub kept_near : (k : ℕ) → k ≤ 500 → (a b : Point) (window : Rect) → HandedIn (floats_of a b window) → every (within k) (a.x ∷ a.y ∷ b.x ∷ b.y ∷ []) ≡ true
+      → (s : Segment) → clipped a b window ≡ Ok s → KeptFrom k a b window a (first_of s) × KeptFrom k a b window (second_of (whole a b)) (second_of s)

@@ -1,10 +1,12 @@
 -- What the entries of module 4 refuse, in document 01's order for the plane: 2, then 3.
-use Rattle.std.specs.Prelude.{ℕ, Bool, true, false, pos, Float}
+use Rattle.std.specs.Prelude.{Bool, true, false, pos, Result, Float}
 use Rattle.std.specs.Float.{fin}
 use Rattle.std.specs.Float.Ieee.{le}
 use Rattle.float.specs.Choice.{◌and◌}
 use Rattle.float.specs.Float.{magnitude_of}
-use Rattle.answer.specs.Answer.{unless◌refuse◌else◌, done, not_finite, bad_window}
+use Rattle.answer.specs.Refusal.{unless◌refuse◌else◌, done}
+use Rattle.answer.specs.declared.Refusal.{Refusal}
+use Rattle.answer.specs.declared.Refusal.TheVariants.{NotFinite, BadWindow}
 use Rattle.plane.specs.declared.point.Point.{Point}
 use Rattle.plane.specs.declared.interval.Interval.{Interval}
 use Rattle.plane.specs.declared.rect.Rect.{Rect}
@@ -21,8 +23,8 @@ unfoldable pub side : Float → Bool
 side x = le (magnitude_of x) limit
 
 -- 2 for a float other than the window's, then 3 for the window
-unfoldable pub plane_refusal : Bool → Bool → ℕ
-plane_refusal points window = unless points refuse not_finite else unless window refuse bad_window else done
+unfoldable pub plane_refusal : Bool → Bool → Result (Unit {0}) Refusal
+plane_refusal points window = unless points refuse NotFinite else unless window refuse BadWindow else done
 
 -- ---- points, bounds and windows
 
@@ -47,19 +49,19 @@ window_fine r = sides_fine r.x and sides_fine r.y
 
 -- ---- the entries
 
-abbrev pub edge_refusal : Point → Point → Rect → ℕ
+abbrev pub edge_refusal : Point → Point → Rect → Result (Unit {0}) Refusal
 edge_refusal a b window = plane_refusal (point_fine a and point_fine b) (window_fine window)
 
-abbrev pub bound_refusal : Point → Point → Rect → Rect → ℕ
+abbrev pub bound_refusal : Point → Point → Rect → Rect → Result (Unit {0}) Refusal
 bound_refusal a b window bound = plane_refusal ((point_fine a and point_fine b) and box_fine bound) (window_fine window)
 
 -- the window is one interval: 3 over that axis alone
-abbrev pub axis_refusal : Float → Float → Interval → Float → Float → Interval → Interval → ℕ
+abbrev pub axis_refusal : Float → Float → Interval → Float → Float → Interval → Interval → Result (Unit {0}) Refusal
 axis_refusal a0 b0 bound0 a1 b1 bound1 window =
     plane_refusal ((coordinates a0 b0 and coordinates a1 b1) and (bound_fine bound0 and bound_fine bound1)) (sides_fine window)
 
-abbrev pub end_refusal : Interval → Float → ℕ
+abbrev pub end_refusal : Interval → Float → Result (Unit {0}) Refusal
 end_refusal bound v = plane_refusal (bound_fine bound and coordinate v) true
 
-abbrev pub value_refusal : Float → Float → Float → Float → Float → ℕ
+abbrev pub value_refusal : Float → Float → Float → Float → Float → Result (Unit {0}) Refusal
 value_refusal x a b a1 b1 = plane_refusal (coordinate x and (coordinates a b and coordinates a1 b1)) true

@@ -1,5 +1,5 @@
 -- The same cut side by side, as the code's one loop goes: so many sides in turn, the axes changing places after each high one. In the edge's own box a value of the line is held only where it would lose the edge, and the nearer end is told without magnitudes; proofs/OwnBox.antt and proofs/OwnLine.antt have why that is the same. No entry's contract and no promise cites it: a reader of those can pass it over.
-use Rattle.std.specs.Prelude.{ℕ, zero, suc, Bool, true, false, not, Float}
+use Rattle.std.specs.Prelude.{ℕ, zero, suc, Bool, true, false, not, Option, Some, None, Float}
 use Rattle.std.specs.Float.Ieee.{lt, le, eq, unlike}
 use Rattle.float.specs.Choice.{when◌then◌else◌, ◌and◌}
 use Rattle.float.specs.Float.{◌⊖◌}
@@ -9,13 +9,7 @@ use Rattle.plane.specs.declared.point.Point.{Point}
 use Rattle.plane.specs.declared.interval.Interval.{Interval}
 use Rattle.plane.specs.declared.rect.Rect.{Rect}
 use Rattle.clip.specs.declared.compute.Axis.{Axis}
-use Rattle.clip.specs.declared.compute.Moved.{Moved}
-use Rattle.clip.specs.declared.compute.Moved.TheVariants.{Lost}
 use Rattle.clip.specs.declared.compute.Both.{Both}
-use Rattle.clip.specs.declared.compute.AxisCut.{AxisCut}
-use Rattle.clip.specs.declared.compute.AxisCut.TheVariants.{Left, Gone}
-use Rattle.clip.specs.declared.compute.BoxCut.{BoxCut}
-use Rattle.clip.specs.declared.compute.BoxCut.TheVariants.{Inside, Outside}
 use Rattle.clip.specs.Cut.{from_end, value_at, inward, moved_end, side_with}
 
 abbrev pub axis_with : Float → Float → Interval → Interval → Axis
@@ -48,17 +42,17 @@ unfoldable pub own_end : Bool → Axis → Axis → Float
 own_end high this other = when unlike high (lt this.b this.a) then other.a else other.b
 
 -- past the end that stays: lost, unless that is still the edge's own
-unfoldable pub stayed : Interval → Bool → Float → Moved
-stayed i high own = when eq (end_of i (not high)) own then moved_end i high own else Lost
+unfoldable pub stayed : Interval → Bool → Float → Option Interval
+stayed i high own = when eq (end_of i (not high)) own then moved_end i high own else None
 
 -- by a value of the line that is not held
-unfoldable pub own_moved : Interval → Bool → Float → Float → Moved
+unfoldable pub own_moved : Interval → Bool → Float → Float → Option Interval
 own_moved i high v own =
     when inward high v (end_of i high) and inward high v (end_of i (not high)) then stayed i high own
     else moved_end i high v
 
 -- in the edge's own box, or in any
-unfoldable pub line_moved : Bool → Bool → Axis → Axis → Bool → Moved
+unfoldable pub line_moved : Bool → Bool → Axis → Axis → Bool → Option Interval
 line_moved own high this other end =
     let side = end_of this.clip high in
     when own then own_moved other.bound end (own_line side this.a this.b other.a other.b) (own_end high this other)
@@ -67,17 +61,17 @@ line_moved own high this other end =
 -- ---- the sides
 
 -- the cut of one side, on two axes
-unfoldable pub turn_cut : Bool → Bool → Axis → Axis → Bool → AxisCut
+unfoldable pub turn_cut : Bool → Bool → Axis → Axis → Bool → Option Both
 turn_cut own high this other negative =
     side_with high this.bound other.bound this.clip (line_moved own high this other (unlike high negative))
 
-unfoldable pub where_left : AxisCut → (Both → BoxCut) → BoxCut
-where_left (Left s) rest = rest s
-where_left Gone rest = Outside
+unfoldable pub where_left : Option Both → (Both → Option Rect) → Option Rect
+where_left (Some s) rest = rest s
+where_left None rest = None
 
 -- so many sides, from the low or the high one of the first axis on
-unfoldable pub sides_cut : Bool → ℕ → Bool → Axis → Axis → Bool → BoxCut
-sides_cut own zero high this other negative = Inside (this.bound by other.bound)
+unfoldable pub sides_cut : Bool → ℕ → Bool → Axis → Axis → Bool → Option Rect
+sides_cut own zero high this other negative = Some (this.bound by other.bound)
 sides_cut own (suc k) high this other negative =
     where_left (turn_cut own high this other negative) (λ (s : Both).
     when high then sides_cut own k false (bounded_by other s.other) (bounded_by this s.this) negative

@@ -1,24 +1,23 @@
 -- What is promised of the value at x, on which every cut rests: it is never a NaN, and where x lies from a to b it is finite and lies between a1 and b1; and of a corner's place off the line, on which edge_intersects_rect rests: it is finite.
 -- Statements only; proofs/Values.antt has the proofs.
-use Rattle.std.specs.Prelude.{◌≡◌, Bool, true, false, not, List, [], ◌∷◌, ◌++◌, map, Float}
+use Rattle.std.specs.Prelude.{◌≡◌, Bool, true, false, not, List, [], ◌∷◌, ◌++◌, map, Option, Some, None, Ok, Err, Float}
 use Rattle.std.specs.Float.{inf, binary64}
 use Rattle.std.specs.Float.Ieee.{eq, fits, is_nan, of_bits}
 use Rattle.float.specs.Choice.{when◌then◌else◌, ◌and◌}
 use Rattle.float.specs.Float.{zero_f, one_f, finite}
-use Rattle.answer.specs.Answer.{done, missed}
+use Rattle.answer.specs.Refusal.{value_or, done}
+use Rattle.answer.specs.declared.Refusal.TheVariants.{Missed}
 use Rattle.plane.specs.Point.{difference_of, ortho_of}
 use Rattle.plane.specs.Interval.{from◌to◌, holds, between, end_of}
 use Rattle.plane.specs.Rect.{box_of}
-use Rattle.plane.specs.Answers.{zero_interval}
 use Rattle.plane.specs.Within.{In, Part, PartRect}
 use Rattle.plane.specs.declared.point.Point.{Point}
 use Rattle.plane.specs.declared.interval.Interval.{Interval}
 use Rattle.plane.specs.declared.rect.Rect.{Rect}
-use Rattle.clip.specs.declared.compute.AxisCut.{AxisCut}
-use Rattle.clip.specs.declared.compute.AxisCut.TheVariants.{Left, Gone}
+use Rattle.clip.specs.declared.compute.Both.{Both}
 use Rattle.clip.specs.Cut.{negative_slope, value_at, inward, side_cut, axis_cut, box_cut, off_line}
 use Rattle.clip.specs.Refuse.{edge_refusal, bound_refusal, axis_refusal, value_refusal}
-use Rattle.clip.specs.Answers.{axes_answer, axis_or_refusal, value_or_refusal}
+use Rattle.clip.specs.Answers.{axis_or_refusal, value_or_refusal}
 
 -- the test holds of every one
 unfoldable pub every : (Float → Bool) → List Float → Bool
@@ -49,18 +48,18 @@ side_places high this window =
     else []
 
 -- that of the low side, then that of the high side on what it left
-unfoldable pub high_places : Interval → AxisCut → List Float
-high_places window (Left s) = side_places true s.this window
-high_places window Gone = []
+unfoldable pub high_places : Interval → Option Both → List Float
+high_places window (Some s) = side_places true s.this window
+high_places window None = []
 
 unfoldable pub axis_places : Float → Float → Interval → Float → Float → Interval → Bool → Interval → List Float
 axis_places a0 b0 this a1 b1 other negative window =
     side_places false this window ++ high_places window (side_cut false a0 b0 this a1 b1 other negative window)
 
 -- those of axis x, then those of axis y on what x left
-unfoldable pub y_places : Point → Point → Bool → Interval → AxisCut → List Float
-y_places a b negative window (Left s) = axis_places a.y b.y s.other a.x b.x s.this negative window
-y_places a b negative window Gone = []
+unfoldable pub y_places : Point → Point → Bool → Interval → Option Both → List Float
+y_places a b negative window (Some s) = axis_places a.y b.y s.other a.x b.x s.this negative window
+y_places a b negative window None = []
 
 abbrev pub places_on_x : Point → Point → Rect → Rect → List Float
 places_on_x a b window box = axis_places a.x b.x box.x a.y b.y box.y (negative_slope a b) window.x
@@ -102,20 +101,20 @@ pub record OwnAsks (a b : Point) (window box : Rect) : Type 0 where
 pub record Values : Type 0 where
   -- interpolate: no NaN wherever x is, and finite for x from a to b, in either order
   pub never_nan : (x a b a1 b1 : Float) → HandedIn (x ∷ a ∷ b ∷ a1 ∷ b1 ∷ [])
-      → is_nan (value_or_refusal x a b a1 b1).value ≡ false
+      → is_nan (value_or zero_f (value_or_refusal x a b a1 b1)) ≡ false
   pub finite_between : (x a b a1 b1 : Float) → HandedIn (x ∷ a ∷ b ∷ a1 ∷ b1 ∷ []) → In (between a b) x
-      → finite (value_or_refusal x a b a1 b1).value ≡ true
+      → finite (value_or zero_f (value_or_refusal x a b a1 b1)) ≡ true
   -- there it lies between a1 and b1, whichever of a and b, and of a1 and b1, is the greater
   pub between_ends : (x a b a1 b1 : Float) → HandedIn (x ∷ a ∷ b ∷ a1 ∷ b1 ∷ []) → value_refusal x a b a1 b1 ≡ done → In (between a b) x
-      → In (between a1 b1) (value_or_refusal x a b a1 b1).value
+      → In (between a1 b1) (value_or zero_f (value_or_refusal x a b a1 b1))
   -- at a it is a1 and at b it is b1, as numbers; where a = b it is a1
   pub at_a : (x a b a1 b1 : Float) → HandedIn (x ∷ a ∷ b ∷ a1 ∷ b1 ∷ []) → value_refusal x a b a1 b1 ≡ done → eq x a ≡ true
-      → eq (value_or_refusal x a b a1 b1).value a1 ≡ true
+      → eq (value_or zero_f (value_or_refusal x a b a1 b1)) a1 ≡ true
   pub at_b : (x a b a1 b1 : Float) → HandedIn (x ∷ a ∷ b ∷ a1 ∷ b1 ∷ []) → value_refusal x a b a1 b1 ≡ done → eq x b ≡ true → eq a b ≡ false
-      → eq (value_or_refusal x a b a1 b1).value b1 ≡ true
-  pub level : (x a b a1 b1 : Float) → value_refusal x a b a1 b1 ≡ done → eq a b ≡ true → (value_or_refusal x a b a1 b1).value ≡ a1
+      → eq (value_or zero_f (value_or_refusal x a b a1 b1)) b1 ≡ true
+  pub level : (x a b a1 b1 : Float) → value_refusal x a b a1 b1 ≡ done → eq a b ≡ true → value_or_refusal x a b a1 b1 ≡ Ok a1
   -- for x elsewhere it may be infinite
-  pub infinite_elsewhere : value_or_refusal one_f zero_f tiny zero_f one_f ≡ record { number = done; value = inf false }
+  pub infinite_elsewhere : value_or_refusal one_f zero_f tiny zero_f one_f ≡ Ok (inf false)
   -- what is asked for is all that a cut takes from the line, but for the sign of its slope: two lines that are asked for the same values are cut alike
   pub axis_by_asks : (a0 b0 a1 b1 c0 d0 c1 d1 : Float) (this other : Interval) (negative : Bool) (window : Interval)
       → axis_asks a0 b0 this a1 b1 other negative window ≡ axis_asks c0 d0 this c1 d1 other negative window
@@ -143,7 +142,7 @@ pub record Values : Type 0 where
   -- the edge from (0, 0) to (2 ^ -1074, 1), the bound [0, 2] by [0, 1], the window [1, 2]
   pub infinite_asked : axis_asks zero_f tiny (from zero_f to two_f) zero_f one_f (from zero_f to one_f) false (from one_f to two_f) ≡ inf false ∷ []
   pub infinite_missed : axis_or_refusal zero_f tiny (from zero_f to two_f) zero_f one_f (from zero_f to one_f) false (from one_f to two_f)
-      ≡ axes_answer missed zero_interval zero_interval
+      ≡ Err Missed
   -- edge_intersects_rect: each corner's place off the line is finite
   pub corners_finite : (a b : Point) (r : Rect) → HandedIn (floats_of a b r) → edge_refusal a b r ≡ done
       → (i j : Bool) → finite (off_line (ortho_of (difference_of b a)) a r i j) ≡ true

@@ -1,35 +1,18 @@
-// What the entries compute: any float goes in, NaN and infinities too, and nothing is refused.
+// What the entries compute: any float goes in, NaN and infinities too, and nothing is refused. None is where nothing is left.
+#![tactic(auto, using(float::proofs::Choice::branches, float::proofs::Choice::asks), unfolding(crate::specs::Cut::negative_slope, crate::specs::Cut::inward, crate::specs::Cut::with_end, crate::specs::Cut::held_in, crate::specs::Cut::on_line, crate::specs::Cut::value_at, crate::specs::Cut::moved_end, crate::specs::Cut::other_moved, crate::specs::Cut::crossed, crate::specs::Cut::edge_meets, crate::specs::Turns::a_nearer, crate::specs::Turns::own_line, crate::specs::Turns::own_end, crate::specs::Turns::stayed, crate::specs::Turns::own_moved, crate::specs::Turns::line_moved, crate::specs::Turns::turn_cut))]
+
 ghost use Rattle.std.specs.Prelude.{◌≡◌, false};
-ghost use Rattle.clip.specs.Cut.{from_end, on_line, held_in, value_at, inward, with_end, moved_end, axis_cut, negative_slope, other_moved, off_line, crossed, edge_meets};
+ghost use Rattle.clip.specs.Cut.{from_end, on_line, held_in, value_at, inward, with_end, moved_end, axis_cut, negative_slope, off_line, crossed, edge_meets};
 ghost use Rattle.clip.specs.Turns.{axis_with, axis_x, axis_y, a_nearer, own_line, own_end, stayed, own_moved, line_moved, turn_cut, sides_cut};
 
 use plane::{Interval, Point, Rect};
 
-// An interval with one end moved, or nothing is left of it.
-#[derive(Clone, Copy)]
-pub enum Moved {
-    To(Interval),
-    Lost,
-}
-
 // The bounds of an axis and of the other.
 #[repr(C)]
-#[derive(Clone, Copy)]
+#[derive(Clone, Copy, Debug, Default, PartialEq)]
 pub struct Both {
     pub this: Interval,
     pub other: Interval,
-}
-
-#[derive(Clone, Copy)]
-pub enum AxisCut {
-    Left(Both),
-    Gone,
-}
-
-#[derive(Clone, Copy)]
-pub enum BoxCut {
-    Inside(Rect),
-    Outside,
 }
 
 // How many sides of the window there are to cut at.
@@ -63,34 +46,28 @@ pub fn cut_sides(
     neg_slope: bool,
     clip: Rect,
     bound: Rect,
-) -> BoxCut
+) -> Option<Rect>
     ensures { result ≡ sides_cut «own» sides false (axis_x a b clip bound) (axis_y a b clip bound) neg_slope }
 {
     let mut this = Axis::of(a.x, b.x, bound.x, clip.x);
     let mut other = Axis::of(a.y, b.y, bound.y, clip.y);
     let mut high = false;
-    let mut left = sides;
-    while 0 < left {
-        match clip_side(own, high, this, other, neg_slope) {
-            AxisCut::Left(s) => {
-                let t = Axis::of(this.a, this.b, s.this, this.clip);
-                let u = Axis::of(other.a, other.b, s.other, other.clip);
-                if high {
-                    this = u;
-                    other = t;
-                } else {
-                    this = t;
-                    other = u;
-                }
-            }
-            AxisCut::Gone => return BoxCut::Outside,
+    for _done in 0..sides {
+        let s = clip_side(own, high, this, other, neg_slope)?;
+        let t = Axis::of(this.a, this.b, s.this, this.clip);
+        let u = Axis::of(other.a, other.b, s.other, other.clip);
+        if high {
+            this = u;
+            other = t;
+        } else {
+            this = t;
+            other = u;
         }
         high = !high;
-        left -= 1;
     }
     let x = this.bound;
     let y = other.bound;
-    BoxCut::Inside(Rect { x, y })
+    Some(Rect { x, y })
 }
 
 impl Axis {
@@ -108,7 +85,7 @@ pub fn slope_is_negative(a: Point, b: Point) -> bool
 }
 
 // One axis of the line from (a0, a1) to (b0, b1): the low side of the window, then the high side of
-// what it left.
+// what it left. The parameters are those that C hands to the entry, as the original has them.
 pub fn clip_bound_axis(
     a0: f64,
     b0: f64,
@@ -118,7 +95,7 @@ pub fn clip_bound_axis(
     bound1: Interval,
     neg_slope: bool,
     clip: Interval,
-) -> AxisCut
+) -> Option<Both>
     ensures { result ≡ axis_cut a0 b0 bound0 a1 b1 bound1 neg_slope clip }
 {
     let a = Point { x: a0, y: a1 };
@@ -128,38 +105,39 @@ pub fn clip_bound_axis(
         x: bound0,
         y: bound1,
     };
-    match cut_sides(ONE_AXIS, false, a, b, neg_slope, window, bound) {
-        BoxCut::Inside(r) => {
-            let this = r.y;
-            let other = r.x;
-            AxisCut::Left(Both { this, other })
-        }
-        BoxCut::Outside => AxisCut::Gone,
-    }
+    let r = cut_sides(ONE_AXIS, false, a, b, neg_slope, window, bound)?;
+    let this = r.y;
+    let other = r.x;
+    Some(Both { this, other })
 }
 
 // One side of the window, where the bound reaches past it.
-fn clip_side(own: bool, high: bool, this: Axis, other: Axis, neg_slope: bool) -> AxisCut
+fn clip_side(own: bool, high: bool, this: Axis, other: Axis, neg_slope: bool) -> Option<Both>
     ensures { result ≡ turn_cut «own» «high» this other neg_slope }
 {
     let side = this.clip.at_end(high);
     if is_inward(high, side, this.bound.at_end(high)) {
         if is_inward(high, side, this.bound.at_end(!high)) {
-            return AxisCut::Gone;
+            return None;
         }
-        return move_other(
-            with_end(this.bound, high, side),
-            move_to_line(own, high, this, other, high != neg_slope),
-        );
+        let other = move_to_line(own, high, this, other, high != neg_slope)?;
+        let this = with_end(this.bound, high, side);
+        return Some(Both { this, other });
     }
     let this = this.bound;
     let other = other.bound;
-    AxisCut::Left(Both { this, other })
+    Some(Both { this, other })
 }
 
 // An end of the other axis, moved to the line's value at the side. In the edge's own box that value need not be held: past
 // the end that it moves it moves nothing, and past the end that stays `update_own` asks.
-fn move_to_line(own: bool, high: bool, this: Axis, other: Axis, high_endpoint: bool) -> Moved
+fn move_to_line(
+    own: bool,
+    high: bool,
+    this: Axis,
+    other: Axis,
+    high_endpoint: bool,
+) -> Option<Interval>
     ensures { result ≡ line_moved «own» «high» this other high_endpoint }
 {
     let side = this.clip.at_end(high);
@@ -188,18 +166,9 @@ fn own_end(high: bool, this: Axis, other: Axis) -> f64
     }
 }
 
-fn move_other(this: Interval, moved: Moved) -> AxisCut
-    ensures { result ≡ other_moved this moved }
-{
-    match moved {
-        Moved::To(other) => AxisCut::Left(Both { this, other }),
-        Moved::Lost => AxisCut::Gone,
-    }
-}
-
 // The interval with an end moved to the value: never wider, and lost where the value lies past the
 // other end.
-pub fn update_endpoint(bound: Interval, high_endpoint: bool, value: f64) -> Moved
+pub fn update_endpoint(bound: Interval, high_endpoint: bool, value: f64) -> Option<Interval>
     ensures { result ≡ moved_end bound high_endpoint value }
 {
     if high_endpoint {
@@ -210,20 +179,20 @@ pub fn update_endpoint(bound: Interval, high_endpoint: bool, value: f64) -> Move
 }
 
 // The same for an end that its caller names, so that the compiler makes the tests of each.
-fn move_end(bound: Interval, high: bool, value: f64) -> Moved
+fn move_end(bound: Interval, high: bool, value: f64) -> Option<Interval>
     ensures { result ≡ moved_end bound high value }
 {
     if is_inward(high, value, bound.at_end(!high)) {
-        return Moved::Lost;
+        return None;
     }
     if is_inward(high, value, bound.at_end(high)) {
-        return Moved::To(with_end(bound, high, value));
+        return Some(with_end(bound, high, value));
     }
-    Moved::To(bound)
+    Some(bound)
 }
 
 // `update_endpoint` in the edge's own box, whose end that stays was `own` at first, with a value that is not held.
-fn update_own(bound: Interval, high_endpoint: bool, value: f64, own: f64) -> Moved
+fn update_own(bound: Interval, high_endpoint: bool, value: f64, own: f64) -> Option<Interval>
     ensures { result ≡ own_moved bound high_endpoint value own }
 {
     if high_endpoint {
@@ -234,32 +203,32 @@ fn update_own(bound: Interval, high_endpoint: bool, value: f64, own: f64) -> Mov
 }
 
 // The same for an end that its caller names.
-fn move_own(bound: Interval, high: bool, value: f64, own: f64) -> Moved
+fn move_own(bound: Interval, high: bool, value: f64, own: f64) -> Option<Interval>
     ensures { result ≡ own_moved bound «high» value own }
 {
     if is_inward(high, value, bound.at_end(high)) {
         if is_inward(high, value, bound.at_end(!high)) {
             return stay_at(bound, high, own);
         }
-        return Moved::To(with_end(bound, high, value));
+        return Some(with_end(bound, high, value));
     }
     if is_inward(high, value, bound.at_end(!high)) {
-        return Moved::Lost;
+        return None;
     }
-    Moved::To(bound)
+    Some(bound)
 }
 
 // A value past the end that stays: the edge is lost, unless that end is still its own. There the value is held.
-fn stay_at(bound: Interval, high: bool, own: f64) -> Moved
+fn stay_at(bound: Interval, high: bool, own: f64) -> Option<Interval>
     ensures { result ≡ stayed bound «high» own }
 {
     if bound.at_end(!high) == own {
         if is_inward(high, own, bound.at_end(high)) {
-            return Moved::To(with_end(bound, high, own));
+            return Some(with_end(bound, high, own));
         }
-        return Moved::To(bound);
+        return Some(bound);
     }
-    Moved::Lost
+    None
 }
 
 // Whether x lies inward of y as seen from the high end, or from the low.
@@ -273,14 +242,9 @@ fn with_end(i: Interval, high: bool, value: f64) -> Interval
     ensures { result ≡ with_end i high value }
 {
     if high {
-        return Interval {
-            lo: i.lo,
-            hi: value,
-        };
-    }
-    Interval {
-        lo: value,
-        hi: i.hi,
+        Interval { hi: value, ..i }
+    } else {
+        Interval { lo: value, ..i }
     }
 }
 
@@ -355,7 +319,7 @@ pub fn edge_intersects_rect(a: Point, b: Point, r: Rect) -> bool
     ensures { result ≡ edge_meets a b r }
 {
     if r.intersects(Rect::from_points(a, b)) {
-        return corners_cross(b.difference(a).ortho(), a, r);
+        return corners_cross((b - a).ortho(), a, r);
     }
     false
 }
@@ -376,5 +340,5 @@ fn corners_cross(n: Point, a: Point, r: Rect) -> bool
 fn off_line(n: Point, a: Point, r: Rect, i: bool, j: bool) -> f64
     ensures { result ≡ off_line n a r i j }
 {
-    n.dot(r.vertex(i, j).difference(a))
+    n.dot(r.vertex(i, j) - a)
 }

@@ -6,9 +6,9 @@ use Prim.Native.Nat.{ℕ, suc, ◌+◌, ◌≤◌, ◌<◌}
 use native.Mathlib.Nat.{eq-or-lt_of_le}
 use native.Mathlib.Omega.{arith}
 use lib.Dec.{leb}
-use lib.Ieee.{Float, lt, le}
+use lib.Ieee.{lt, le}
 use Rattle.float.specs.Float.{zero_f}
-use Rattle.float.proofs.Choice.{then_is, else_is, cases}
+use Rattle.float.proofs.Choice.{cases}
 use Rattle.float.proofs.Order.{Num, finite_num, le_refl, le_trans, lt_le, not_lt, le_not_lt, le_lt_trans}
 use Rattle.float.proofs.Size.{size_finite}
 use Rattle.float.proofs.Whole.{le_or_lt}
@@ -19,21 +19,15 @@ use Rattle.cube.specs.declared.vector.Vector.{Vector}
 use Rattle.cube.proofs.Six.{six, three}
 use Rattle.cube.proofs.Vectors.{along_finite}
 
--- ---- the code's two branches, on the absolute coordinates a and b, and the axis that it names
-module _ (p : Vector) (i j : ℕ) (a b : Float) where
-  pub second_is : lt a b ≡ true → a ≡ absolute i p → b ≡ absolute j p → j ≡ greater p i j
-  unfolding greater
-  second_is e h k = then_is _ _ _ _ (rw (← h, ← k) e) refl
-
-  pub first_is : lt a b ≡ false → a ≡ absolute i p → b ≡ absolute j p → i ≡ greater p i j
-  unfolding greater
-  first_is e h k = else_is _ _ _ _ (rw (← h, ← k) e) refl
-
-pub axis_le : (p : Vector) → greater p (greater p 0 1) 2 ≤ 2
+axis_le : (p : Vector) → greater p (greater p 0 1) 2 ≤ 2
 axis_le p = either (greater p 0 1) 2 (either 0 1 (omega arith) (omega arith)) (omega arith)
   where
     either : (i j : ℕ) → i ≤ 2 → j ≤ 2 → greater p i j ≤ 2
     either i j I J = unfold greater in cases (λ (k : ℕ). k ≤ 2) (lt (absolute i p) (absolute j p)) j i (λ e. J) (λ e. I)
+
+pub face_le : (p : Vector) → face_of p ≤ 5
+unfolding face_of
+face_le p = cases (λ (f : ℕ). f ≤ 5) _ _ _ (λ e. omega (arith, axis_le p)) (λ e. omega (arith, axis_le p))
 
 -- ---- of the first n axes k has the greatest absolute coordinate, and is the lowest that has it
 record Top (p : Vector) (n k : ℕ) : Type 0 where

@@ -1,52 +1,54 @@
--- The six rules and the refusal for the rest, and a refusal after it: the entries' numbers.
-use mathlib.Core.Path.{◌≡◌, refl, ap, ◌∙◌}
+-- What the six rules and the refusal for the rest say of the number: a face where there is a value, none where there is a refusal.
+use mathlib.Core.Path.{◌≡◌, refl, sym, ◌∙◌}
 use mathlib.Core.Bool.{Bool, true, false}
-use Prim.Native.Nat.{ℕ, ◌<◌}
-use borrow.Author.Tests.{lt-leb}
-use lib.Ieee.{Float, lt}
-use Rattle.float.specs.Choice.{when◌then◌else◌}
+use Prim.Native.Nat.{ℕ, ◌≤◌, ◌<◌}
+use borrow.Author.Tests.{leb-true, leb-false}
+use lib.Dec.{leb}
+use Rattle.std.specs.Prelude.{if◌then◌else◌, Result, Ok, Err}
+use Rattle.std.specs.Prelude.{Float}
+use Rattle.std.specs.Float.Ieee.{lt}
 use Rattle.float.specs.Float.{zero_f}
-use Rattle.float.proofs.Choice.{else_is}
-use Rattle.answer.specs.Answer.{done, missed, not_finite, bad_face}
-use Rattle.cube.specs.Vector.{zero_vector}
-use Rattle.cube.specs.Faces.{by_face, uv}
-use Rattle.cube.specs.Refuse.{cube_refusal, is_face, face_refusal, side_number}
-use Rattle.cube.specs.Inner.{vector_refused, uv_refused, on_face, uv_on_face, also_refused}
-use Rattle.cube.specs.declared.vector.Vector.{Vector}
-use Rattle.cube.specs.declared.compute.Uv.{Uv}
-use Rattle.cube.specs.declared.UvAnswer.{UvAnswer}
-use Rattle.cube.specs.declared.VectorAnswer.{VectorAnswer}
+use Rattle.answer.specs.Refusal.{done, unless◌refuse◌else◌, ◌then◌}
+use Rattle.answer.specs.declared.Refusal.TheVariants.{BadFace, NotFinite, Missed}
+use Rattle.cube.specs.Refuse.{is_face, cube_refusal}
+use Rattle.answer.specs.declared.Refusal.{Refusal}
+use Rattle.std.specs.Result.{result_unwrap_or}
+use Rattle.cube.specs.Faces.{by_face}
+use Rattle.cube.specs.Inner.{on_face}
 use Rattle.cube.proofs.Six.{beyond_is}
 
--- ---- the last arm
-refused_is : (f : ℕ) → 5 < f → bad_face ≡ face_refusal f true
-unfolding cube_refusal
-refused_is f h = else_is _ _ _ _ (lt-leb f 5 h) refl
-
-pub vector_refused_lem : (f : ℕ) (a b c d e g : Vector) (r : VectorAnswer) → r ≡ vector_refused bad_face → 5 < f → r ≡ on_face f (by_face f a b c d e g zero_vector)
-vector_refused_lem f a b c d e g r q h = q ∙ (cc (refused_is f h, beyond_is f a b c d e g zero_vector h))
-
-pub uv_refused_lem : (f : ℕ) (a b c d e g : Uv) (r : UvAnswer) → r ≡ uv_refused bad_face → 5 < f → r ≡ uv_on_face f (by_face f a b c d e g (uv zero_f zero_f))
-uv_refused_lem f a b c d e g r q h = q ∙ (cc (refused_is f h, beyond_is f a b c d e g (uv zero_f zero_f) h))
-
--- ---- what is taken out of an answer
-pub vector_of : (n : ℕ) (p : Vector) (r : VectorAnswer) → r ≡ record { number = n; vector = p } → r.vector ≡ p
-vector_of n p r e = ap (λ (a : VectorAnswer). a.vector) e
-
--- ---- a refusal after it: 2, and after that 1
-pub also_floats : (f : ℕ) (floats : Bool) → also_refused (face_refusal f true) floats not_finite ≡ face_refusal f floats
-unfolding also_refused cube_refusal when◌then◌else◌
-also_floats f floats = go (is_face f)
+pub one : {A : Type 0} (f : ℕ) (x v : A) → Ok v ≡ on_face f x → (f ≤ 5) × (v ≡ x)
+one f x v e = go (leb f 5) refl e
   where
-    go : (b : Bool) → also_refused (cube_refusal b true true done) floats not_finite ≡ cube_refusal b floats true done
+    go : (b : Bool) → leb f 5 ≡ b → Ok v ≡ (if b then Ok x else Err BadFace) → (f ≤ 5) × (v ≡ x)
+    go true h e = (leb-true f 5 h, cc)
+    go false h e = absurd (cc)
+
+-- what is asked one thing after the other, 4, then 2, then 1, is refused in document 01's order
+pub also_side : (f : ℕ) (floats : Bool) (reach : Float) →
+    (on_face f tt then (unless floats refuse NotFinite else (unless lt zero_f reach refuse Missed else done)))
+    ≡ cube_refusal (is_face f) floats true (unless lt zero_f reach refuse Missed else done)
+also_side f floats reach = go (leb f 5)
+  where
+    go : (b : Bool) → ((if b then Ok tt else Err BadFace) then (unless floats refuse NotFinite else (unless lt zero_f reach refuse Missed else done)))
+        ≡ cube_refusal b floats true (unless lt zero_f reach refuse Missed else done)
     go true = refl
     go false = refl
 
-pub also_side : (f : ℕ) (floats : Bool) (reach : Float) → also_refused (face_refusal f floats) (lt zero_f reach) missed ≡ cube_refusal (is_face f) floats true (side_number reach)
-unfolding also_refused cube_refusal side_number when◌then◌else◌
-also_side f floats reach = go (is_face f) floats
+pub none : {A : Type 0} (f : ℕ) (x : A) (r : Refusal) → Err r ≡ on_face f x → 5 < f
+none f x r e = go (leb f 5) refl e
   where
-    go : (b fl : Bool) → also_refused (cube_refusal b fl true done) (lt zero_f reach) missed ≡ cube_refusal b fl true (side_number reach)
-    go true true = refl
-    go true false = refl
-    go false fl = refl
+    go : (b : Bool) → leb f 5 ≡ b → Err r ≡ (if b then Ok x else Err BadFace) → 5 < f
+    go true h e = absurd (cc)
+    go false h e = leb-false f 5 h
+
+-- ---- taken out: of a face its value, of any other number what the rule gives in its place
+pub taken : {A : Type 0} (r : Result A Refusal) (f : ℕ) (x v : A) → r ≡ on_face f x → r ≡ Ok v → v ≡ x
+taken r f x v e h = (one f x v (sym h ∙ e)).1
+
+pub or_rest : {A : Type 0} (f : ℕ) (a b c d e g rest : A) → result_unwrap_or (on_face f (by_face f a b c d e g rest)) rest ≡ by_face f a b c d e g rest
+or_rest f a b c d e g rest = go (leb f 5) refl
+  where
+    go : (i : Bool) → leb f 5 ≡ i → result_unwrap_or (if i then Ok (by_face f a b c d e g rest) else Err BadFace) rest ≡ by_face f a b c d e g rest
+    go true h = refl
+    go false h = beyond_is f a b c d e g rest (leb-false f 5 h)

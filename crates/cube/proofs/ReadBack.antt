@@ -8,16 +8,15 @@ use borrow.Author.Tests.{leb-true, le-leb, eqb-true, eqb-false, eq-eqb, ne_eqb}
 use lib.Dec.{leb, eqb}
 use lib.IntN.{pos}
 use lib.Ieee.{Float, fin, binary64, lt, le, eq, neg, of_bits}
-use Rattle.float.specs.Choice.{when◌then◌else◌}
 use Rattle.float.specs.Float.{◌⊘◌, zero_f, one_f, finite, magnitude_of}
 use Rattle.float.specs.Exact.{Value}
 use Rattle.float.proofs.Choice.{and_both}
 use Rattle.float.proofs.Order.{lt_le}
 use Rattle.float.proofs.Unit.{div_one}
-use Rattle.answer.specs.Answer.{done}
+use Rattle.answer.specs.Refusal.{done}
 use Rattle.cube.specs.Vector.{vec, finite_vector, is_zero}
 use Rattle.cube.specs.Faces.{by_face, along, absolute, face_of, point_at}
-use Rattle.cube.specs.Refuse.{cube_refusal, vector_refusal, side_number, side_refusal}
+use Rattle.cube.specs.Refuse.{vector_refusal, side_refusal}
 use Rattle.cube.specs.Promises.{own_axis, Greatest, ReadBack}
 use Rattle.cube.specs.declared.vector.Vector.{Vector}
 use Rattle.cube.proofs.Six.{six, three, up_to, at, both, beq_is}
@@ -103,11 +102,10 @@ module _ (u v : Float) (fu : finite u ≡ true) (fv : finite v ≡ true) (f : �
       go false e = refl
 
   point_admitted : vector_refusal (point_at f u v) ≡ done
-  unfolding cube_refusal when◌then◌else◌
   point_admitted = rw (point_finite, point_some)
 
   point_on_side : side_refusal f (point_at f u v) ≡ done
-  unfolding cube_refusal side_number when◌then◌else◌ lt of_bits
+  unfolding lt of_bits
   point_on_side = rw (le-leb f 5 F, point_finite, point_w u v f F)
 
 -- ---- with its own numbers

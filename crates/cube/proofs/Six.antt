@@ -5,28 +5,9 @@ use mathlib.Core.Bool.{Bool, true, false, ◌&&◌, beq, false≢true}
 use Prim.Native.Nat.{ℕ, zero, suc, ◌-◌, ◌≤◌, ◌<◌}
 use native.Mathlib.Nat.{eq-or-lt_of_le}
 use native.Mathlib.Omega.{arith}
-use borrow.Author.Tests.{lt-leb}
-use lib.Dec.{leb}
 use Rattle.cube.specs.Faces.{by_face}
 
--- no face, each of the six ruled out by itself
-abbrev pub Else : ℕ → Type 0
-Else f = (((((Unit × (f ≡ 0 → ⊥)) × (f ≡ 1 → ⊥)) × (f ≡ 2 → ⊥)) × (f ≡ 3 → ⊥)) × (f ≡ 4 → ⊥)) × (f ≡ 5 → ⊥)
-
-pub none_is : {A : Type 0} (f : ℕ) (a b c d e g none : A) → Else f → none ≡ by_face f a b c d e g none
-unfolding by_face
-none_is zero a b c d e g none h = absurd (h.0.0.0.0.0.1 refl)
-none_is (suc zero) a b c d e g none h = absurd (h.0.0.0.0.1 refl)
-none_is (suc (suc zero)) a b c d e g none h = absurd (h.0.0.0.1 refl)
-none_is (suc (suc (suc zero))) a b c d e g none h = absurd (h.0.0.1 refl)
-none_is (suc (suc (suc (suc zero)))) a b c d e g none h = absurd (h.0.1 refl)
-none_is (suc (suc (suc (suc (suc zero))))) a b c d e g none h = absurd (h.1 refl)
-none_is (suc (suc (suc (suc (suc (suc n)))))) a b c d e g none h = refl
-
-pub none_le : (f : ℕ) → Else f → leb f 5 ≡ false
-none_le f h = lt-leb f 5 (omega (arith, h.1, h.0.1, h.0.0.1, h.0.0.0.1, h.0.0.0.0.1, h.0.0.0.0.0.1))
-
--- and in one
+-- no face
 pub beyond_is : {A : Type 0} (f : ℕ) (a b c d e g none : A) → 5 < f → none ≡ by_face f a b c d e g none
 unfolding by_face
 beyond_is f a b c d e g none h =

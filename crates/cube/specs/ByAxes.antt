@@ -1,9 +1,9 @@
 -- The neighbour as W3 has it, from the axis directions: the face whose own axis points where it is asked for. That it is document 01's table is promised (Promises.antt).
 use Rattle.std.specs.Prelude.{ℕ, eqb}
-use Rattle.std.specs.Float.Ieee.{lt, neg}
+use Rattle.std.specs.Float.Ieee.{lt}
 use Rattle.float.specs.Choice.{when◌then◌else◌}
 use Rattle.float.specs.Float.{zero_f}
-use Rattle.cube.specs.Vector.{vec}
+use Rattle.cube.specs.Vector.{opposite}
 use Rattle.cube.specs.Faces.{point_at, u_axis, v_axis}
 use Rattle.cube.specs.declared.vector.Vector.{Vector}
 
@@ -15,7 +15,7 @@ axis_of f axis = when eqb axis 0 then u_axis f else when eqb axis 1 then v_axis 
 unfoldable pub unit_toward : ℕ → ℕ → ℕ → Vector
 unit_toward f axis direction =
     let a = axis_of f axis in
-    when eqb direction 0 then vec (neg a.x) (neg a.y) (neg a.z) else a
+    when eqb direction 0 then opposite a else a
 
 -- the face whose own axis is a unit vector: the sign and the place of the one component that is not zero
 unfoldable pub facing : Vector → ℕ

@@ -4,7 +4,7 @@ use Rattle.std.specs.Float.{binary64}
 use Rattle.std.specs.Float.Ieee.{lt, le, eq, neg}
 use Rattle.float.specs.Float.{zero_f, one_f, finite, magnitude_of}
 use Rattle.float.specs.Exact.{Value}
-use Rattle.answer.specs.Answer.{done}
+use Rattle.answer.specs.Refusal.{done}
 use Rattle.cube.specs.Vector.{vec, finite_vector, is_zero}
 use Rattle.cube.specs.Faces.{along, absolute, face_of, uv, uv_of, point_at, uvw_of, minus_or_plus, neighbour, u_axis, v_axis, u_norm, v_norm}
 use Rattle.cube.specs.ByAxes.{unit_toward, neighbour_by_axes}

@@ -1,7 +1,7 @@
 -- The vector, and what is asked of one.
 use Rattle.std.specs.Prelude.{◌≡◌, Bool, true, Float}
 use Rattle.std.specs.Float.{binary64}
-use Rattle.std.specs.Float.Ieee.{eq, fits}
+use Rattle.std.specs.Float.Ieee.{eq, neg, fits}
 use Rattle.float.specs.Choice.{◌and◌}
 use Rattle.float.specs.Float.{zero_f, finite}
 use Rattle.cube.specs.declared.vector.Vector.{Vector}
@@ -11,6 +11,9 @@ vec x y z = record { x = x; y = y; z = z }
 
 abbrev pub zero_vector : Vector
 zero_vector = vec zero_f zero_f zero_f
+
+abbrev pub opposite : Vector → Vector
+opposite p = vec (neg p.x) (neg p.y) (neg p.z)
 
 unfoldable pub finite_vector : Vector → Bool
 finite_vector p = finite p.x and finite p.y and finite p.z

@@ -1,11 +1,13 @@
 // Vectors of space.
-ghost use Rattle.std.specs.Prelude.{◌≡◌};
-ghost use Rattle.cube.specs.Vector.{vec, finite_vector, is_zero};
+#![tactic(auto, using(float::proofs::Choice::branches), unfolding(crate::specs::Vector::finite_vector, crate::specs::Vector::is_zero))]
 
-use answer::both;
+ghost use Rattle.std.specs.Prelude.{◌≡◌};
+ghost use Rattle.cube.specs.Vector.{vec, finite_vector, is_zero, opposite};
+
+use std::ops::Neg;
 
 #[repr(C)]
-#[derive(Clone, Copy)]
+#[derive(Clone, Copy, Debug, PartialEq)]
 pub struct Vector {
     pub x: f64,
     pub y: f64,
@@ -28,14 +30,23 @@ impl Vector {
     pub fn is_finite(self) -> bool
         ensures { result ≡ finite_vector self }
     {
-        let yz = both(float::is_finite(self.y), float::is_finite(self.z));
-        both(float::is_finite(self.x), yz)
+        self.x.is_finite() && self.y.is_finite() && self.z.is_finite()
     }
 
     // Whether each coordinate is a zero, of either sign.
     pub fn is_zero(self) -> bool
         ensures { result ≡ is_zero self }
     {
-        both(self.x == 0.0, both(self.y == 0.0, self.z == 0.0))
+        self.x == 0.0 && self.y == 0.0 && self.z == 0.0
+    }
+}
+
+impl Neg for Vector {
+    type Output = Vector;
+
+    fn neg(self) -> Vector
+        ensures { result ≡ opposite self }
+    {
+        Vector::new(-self.x, -self.y, -self.z)
     }
 }

@@ -1,17 +1,17 @@
 -- What specs/Promises.antt promises, proved.
+use Rattle.std.specs.Prelude.{Result, Ok, Err}
 use Prim.Native.Nat.{ℕ, ◌+◌}
 use native.Mathlib.Omega.{arith}
 use mathlib.Core.Path.{◌≡◌}
-use mathlib.Core.List.{List, [], ◌∷◌}
+use mathlib.Core.List.{[], ◌∷◌}
 use Rattle.float.specs.Choice.{when◌then◌else◌}
-use Rattle.float.proofs.Choice.{cases}
-use Rattle.answer.specs.Answer.{beside, torn}
+use Rattle.answer.specs.Refusal.{number_of}
+use Rattle.answer.specs.declared.Refusal.{Refusal}
+use Rattle.answer.specs.declared.Refusal.TheVariants.{Torn}
 use Rattle.buffer.specs.Text.{line_ends}
 use Rattle.buffer.proofs.Text.{joins_blocks}
 use Rattle.buffer.proofs.Ends.{ends_append, no_end, ends_group, one_line_each}
-use Rattle.clip.specs.declared.Clipped.{Clipped}
 use Rattle.clip.specs.declared.Segment.{Segment}
-use Rattle.clip.specs.Answers.{number_of, points_of}
 use Rattle.cut.specs.Record.{answer_of}
 use Rattle.cut.specs.Line.{number_line, kept_line, line_of, record_line, torn_line}
 use Rattle.cut.specs.Promises.{Promises}
@@ -25,12 +25,13 @@ ends_kept : (s : Segment) → line_ends (kept_line s) ≡ 1
 unfolding kept_line line_ends when◌then◌else◌
 ends_kept s = simp (ends_append, ends_group)
 
-ends_line : (c : Clipped) → line_ends (line_of c) ≡ 1
-unfolding line_of beside
-ends_line c = cases (λ (l : List ℕ). line_ends l ≡ 1) _ _ _ (λ h. ends_kept (points_of c)) (λ h. ends_number (number_of c))
+ends_line : (r : Result Segment Refusal) → line_ends (line_of r) ≡ 1
+unfolding line_of
+ends_line (Ok s) = ends_kept s
+ends_line (Err e) = ends_number (number_of e)
 
 pub promises : Promises
 promises = record {
   blocks = joins_blocks 64 record_line torn_line (omega arith);
-  lines = one_line_each 64 record_line torn_line (λ s. ends_line (answer_of s)) (ends_number torn);
+  lines = one_line_each 64 record_line torn_line (λ s. ends_line (answer_of s)) (ends_number (number_of Torn));
 }

@@ -1,14 +1,13 @@
 -- The lines: the number and, for 0, four groups of 16 lower-case hex digits. A last part under 64 bytes writes 9.
-use Rattle.std.specs.Prelude.{ℕ, ◌+◌, ◌<◌, ◌≡◌, List, [], ◌∷◌, ◌++◌}
+use Rattle.std.specs.Prelude.{ℕ, ◌+◌, List, [], ◌∷◌, ◌++◌, Result, Ok, Err}
 use Rattle.std.specs.Float.{binary64}
 use Rattle.std.specs.Float.Ieee.{to_bits}
-use Rattle.answer.specs.Answer.{done, beside, torn}
+use Rattle.answer.specs.Refusal.{number_of}
+use Rattle.answer.specs.declared.Refusal.{Refusal}
+use Rattle.answer.specs.declared.Refusal.TheVariants.{Torn}
 use Rattle.buffer.specs.Digits.{group}
 use Rattle.buffer.specs.Text as Text
 use Rattle.clip.specs.declared.Segment.{Segment}
-use Rattle.clip.specs.declared.Clipped.{Clipped}
-use Rattle.clip.specs.declared.Clipped.TheVariants.{Kept}
-use Rattle.clip.specs.Answers.{number_of, points_of}
 use Rattle.cut.specs.Record.{answer_of}
 
 -- a number below 10 as its digit, and a line end
@@ -22,19 +21,16 @@ kept_line s =
     ∷ (group (to_bits binary64 s.ax)
     ++ (group (to_bits binary64 s.ay) ++ (group (to_bits binary64 s.bx) ++ (group (to_bits binary64 s.by) ++ (10 ∷ [])))))
 
-unfoldable pub line_of : Clipped → List ℕ
-line_of c = beside (number_of c) (kept_line (points_of c)) (number_line (number_of c))
-
--- what an edge can get, which the writing of its line relies on: a number of one digit, 0 for kept points alone
-abbrev pub Told : Clipped → Type 0
-Told c = (number_of c < 10) × (number_of c ≡ done → c ≡ Kept (points_of c))
+unfoldable pub line_of : Result Segment Refusal → List ℕ
+line_of (Ok s) = kept_line s
+line_of (Err e) = number_line (number_of e)
 
 abbrev pub record_line : List ℕ → List ℕ
 record_line s = line_of (answer_of s)
 
 -- for a last part under 64 bytes
 abbrev pub torn_line : List ℕ
-torn_line = number_line torn
+torn_line = number_line (number_of Torn)
 
 abbrev pub text_of : List ℕ → List ℕ
 text_of s = Text.text_of 64 record_line torn_line s

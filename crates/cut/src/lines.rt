@@ -1,13 +1,15 @@
 // The lines of cut edges, from records.
-ghost use Rattle.std.specs.Prelude.{◌≡◌, ◌+◌, ◌≤◌, ◌<◌, length};
+#![tactic(auto, using(float::proofs::Choice::branches), unfolding(crate::specs::Record::answer_of, crate::specs::Line::number_line))]
+
+ghost use Rattle.std.specs.Prelude.{◌≡◌, ◌+◌, ◌≤◌, length};
+ghost use Rattle.answer.specs.Refusal.{number_of};
 ghost use Rattle.buffer.specs.Bytes.{stored};
 ghost use Rattle.buffer.specs.Text.{written, count_written};
-ghost use Rattle.cut.specs.Record.{float_at, point_at, window_at, answer_of};
-ghost use Rattle.cut.specs.Line.{number_line, kept_line, line_of, Told, text_of, room};
+ghost use Rattle.cut.specs.Record.{answer_of};
+ghost use Rattle.cut.specs.Line.{number_line, kept_line, line_of, text_of, room};
 
-use answer::{MISSED, TORN};
-use clip::{Clipped, Segment};
-use plane::{Interval, Point, Rect};
+use answer::Refusal;
+use clip::Segment;
 
 // The text of the records in s: a line for each, and one more for a torn end. Gives its length, or 0
 // with out as it was where out has no room: 70 bytes for each record, and 2.
@@ -17,102 +19,65 @@ pub fn put_text(s: &[u8], out: &mut [u8]) -> usize
     ensures within { result ≤ length out.new }
 {
     let n = s.len() / 64;
-    if out.len() < 2 {
+    if out.len() < 2 || (out.len() - 2) / 70 < n {
         return 0;
     }
-    if (out.len() - 2) / 70 < n {
-        return 0;
-    }
-    let mut i: usize = 0;
-    let mut to: usize = 0;
-    while i < n {
+    let mut to = 0;
+    for i in 0..n {
         to = put_line(out, to, answer_of(&s[i * 64..i * 64 + 64]));
-        i += 1;
     }
     if s.len() % 64 == 0 {
         return to;
     }
-    put_number(out, to, TORN);
+    buffer::place(out, to, &number_line(Refusal::Torn));
     to + 2
 }
 
 // The line of one answer; the place after it.
-fn put_line(out: &mut [u8], to: usize, c: Clipped) -> usize
-    requires { (to + 70 ≤ length out.old) × Told c }
-    ensures { (result ≡ to + length (line_of c)) × (out.new ≡ stored out.old to (line_of c)) }
+fn put_line(out: &mut [u8], to: usize, answer: Result<Segment, Refusal>) -> usize
+    requires { to + 70 ≤ length out.old }
+    ensures place { result ≡ to + length (line_of answer) }
+    ensures bytes { out.new ≡ stored out.old to (line_of answer) }
 {
-    match c {
-        Clipped::Kept(s) => {
-            put_kept(out, to, s);
+    match answer {
+        Ok(s) => {
+            buffer::place(out, to, &kept_line(s));
             to + 70
         }
-        Clipped::Missed => {
-            put_number(out, to, MISSED);
-            to + 2
-        }
-        Clipped::Refused(n) => {
-            put_number(out, to, n);
+        Err(refusal) => {
+            buffer::place(out, to, &number_line(refusal));
             to + 2
         }
     }
 }
 
 // `0`, four groups of digits and a line end.
-fn put_kept(out: &mut [u8], to: usize, s: Segment)
-    requires { to + 70 ≤ length out.old }
-    ensures { out.new ≡ stored out.old to (kept_line s) }
+fn kept_line(s: Segment) -> [u8; 70]
+    ensures { result ≡ kept_line s }
 {
-    out[to] = b'0';
-    buffer::put_group(out, to + 1, float::to_bits(s.ax));
-    buffer::put_group(out, to + 18, float::to_bits(s.ay));
-    buffer::put_group(out, to + 35, float::to_bits(s.bx));
-    buffer::put_group(out, to + 52, float::to_bits(s.by));
-    out[to + 69] = b'\n';
+    let mut line = [b'0'; 70];
+    buffer::put_group(&mut line, 1, float::to_bits(s.ax));
+    buffer::put_group(&mut line, 18, float::to_bits(s.ay));
+    buffer::put_group(&mut line, 35, float::to_bits(s.bx));
+    buffer::put_group(&mut line, 52, float::to_bits(s.by));
+    line[69] = b'\n';
+    line
 }
 
-// A number of one digit and a line end.
-fn put_number(out: &mut [u8], to: usize, n: u8)
-    requires { (to + 2 ≤ length out.old) × (n < 10) }
-    ensures { out.new ≡ stored out.old to (number_line n) }
+// The refusal's number and a line end.
+fn number_line(refusal: Refusal) -> [u8; 2]
+    ensures { result ≡ number_line (number_of refusal) }
 {
-    out[to] = b'0' + n;
-    out[to + 1] = b'\n';
+    [b'0' + refusal.number(), b'\n']
 }
 
 // The answer for a record.
-fn answer_of(s: &[u8]) -> Clipped
+fn answer_of(s: &[u8]) -> Result<Segment, Refusal>
     ensures { result ≡ answer_of s.now }
 {
-    let a = point_at(s, 0);
-    let b = point_at(s, 16);
-    clip::clip_edge(a, b, window_at(s, 32))
-}
-
-// The low corner, then the high one.
-fn window_at(s: &[u8], at: usize) -> Rect
-    requires { at ≤ 32 }
-    ensures { result ≡ window_at s.now at }
-{
-    let lo = point_at(s, at);
-    let hi = point_at(s, at + 16);
-    Rect {
-        x: Interval { lo: lo.x, hi: hi.x },
-        y: Interval { lo: lo.y, hi: hi.y },
-    }
-}
-
-fn point_at(s: &[u8], at: usize) -> Point
-    requires { at ≤ 48 }
-    ensures { result ≡ point_at s.now at }
-{
-    Point {
-        x: float_at(s, at),
-        y: float_at(s, at + 8),
-    }
-}
-
-fn float_at(s: &[u8], at: usize) -> f64
-    ensures { result ≡ float_at s.now at }
-{
-    float::from_bits(buffer::word_at(s, at))
+    clip::clip_edge(
+        reading::point_at(s, 0),
+        reading::point_at(s, 16),
+        reading::window_at(s, 32),
+    )
 }

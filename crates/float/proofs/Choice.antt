@@ -1,10 +1,10 @@
 -- How a proof goes down a choice: `then_is` and `else_is` where the test is a fact in hand, and their like where it is the answer of a call or a test of numbers.
 -- Each is a rule for `search`; the rule sets are named for what the branch of the code tested.
 use mathlib.Core.Path.{◌≡◌, refl, sym, ◌∙◌}
-use mathlib.Core.Bool.{Bool, true, false, not, false≢true}
+use mathlib.Core.Bool.{Bool, true, false, false≢true}
 use Prim.Native.Nat.{ℕ, ◌<◌, ◌≤◌}
 use lib.Dec.{eqb, leb}
-use borrow.Author.Tests.{not-true, not-false, eq-eqb, ne_eqb, le-leb, lt-leb}
+use borrow.Author.Tests.{eq-eqb, ne_eqb, le-leb, lt-leb}
 use Rattle.float.specs.Choice.{when◌then◌else◌, ◌and◌}
 
 module _ {A : Type 0} (b : Bool) (w x y : A) where
@@ -18,7 +18,7 @@ module _ {A : Type 0} (b : Bool) (w x y : A) where
 
 pub ruleset branches = (then_is, else_is)
 
--- ---- the test is what a call gave, t; or that it does not hold
+-- ---- the test is what a call gave, t
 module _ {A : Type 0} (t b : Bool) (w x y : A) (d : t ≡ b) where
   pub ask_yes : t ≡ true → w ≡ x → w ≡ (when b then x else y)
   ask_yes e h = then_is b w x y (sym d ∙ e) h
@@ -26,15 +26,7 @@ module _ {A : Type 0} (t b : Bool) (w x y : A) (d : t ≡ b) where
   pub ask_no : t ≡ false → w ≡ y → w ≡ (when b then x else y)
   ask_no e h = else_is b w x y (sym d ∙ e) h
 
-  pub deny_no : not t ≡ true → w ≡ y → w ≡ (when b then x else y)
-  deny_no e h = ask_no (not-true t e) h
-
-  pub deny_yes : not t ≡ false → w ≡ x → w ≡ (when b then x else y)
-  deny_yes e h = ask_yes (not-false t e) h
-
 pub ruleset asks = (ask_yes, ask_no)
-
-pub ruleset denies = (deny_yes, deny_no)
 
 -- ---- the test is one of numbers, which a branch knows as a fact of them
 module _ {A : Type 0} (m n : ℕ) (w x y : A) where

@@ -1,4 +1,4 @@
--- A choice by a test, as every definition writes it. It stays shut until a proof opens it, so that a goal shows the choice and not its cases.
+-- A choice by a test, as every definition writes it. It stays shut until a proof opens it, so that a goal shows the choice and not its cases. std's `if` and `&&` open by themselves: with them in its place laws of plane and cube did not find their arguments.
 use Rattle.std.specs.Prelude.{Bool, true, false}
 
 infixr 3 when◌then◌else◌

@@ -1,7 +1,9 @@
 -- Binary64 values, as IEEE 754 has them (the kit's `lib.Ieee`), and what is asked of one.
-use Rattle.std.specs.Prelude.{Bool, true, false, Float}
+use Rattle.std.specs.Prelude.{false, Float}
 use Rattle.std.specs.Float.{nan, inf, fin, binary64}
 use Rattle.std.specs.Float.Ieee.{add, sub, mul, div, of_bits}
+-- the library's words: neither a NaN nor an infinity; the sign bit, and false of a NaN
+unfoldable pub use Rattle.std.specs.Float.{float_is_finite as finite, is_sign_negative as sign_bit}
 
 infixl 60 ◌⊕◌
 infixl 60 ◌⊖◌
@@ -27,20 +29,8 @@ zero_f = of_bits binary64 0
 abbrev pub one_f : Float
 one_f = of_bits binary64 0x3ff0_0000_0000_0000
 
--- neither a NaN nor an infinity
-unfoldable pub finite : Float → Bool
-finite nan = false
-finite (inf s) = false
-finite (fin s m e) = true
-
 -- the value without its sign
 unfoldable pub magnitude_of : Float → Float
 magnitude_of nan = nan
 magnitude_of (inf s) = inf false
 magnitude_of (fin s m e) = fin false m e
-
--- the sign bit; a NaN has none here
-unfoldable pub sign_bit : Float → Bool
-sign_bit nan = false
-sign_bit (inf s) = s
-sign_bit (fin s m e) = s

@@ -1,5 +1,4 @@
 -- Laws that the proofs of this crate, and of the crates above it, cite.
-pub mod Cases
 pub mod Lines
 pub mod Balance
 pub mod Tests

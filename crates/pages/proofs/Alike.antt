@@ -18,7 +18,7 @@ use Rattle.pages.specs.Halves.{Halves, single, halved, edges_in}
 use Rattle.pages.specs.Boxes.{live_edge, edge_extent, joined, extent_of, five_floats, boxes_of}
 use Rattle.pages.specs.Search.{opens, kept_at, found, none, first_of, search}
 use Rattle.pages.specs.Promises.{SameOrDead}
-use Rattle.pages.specs.declared.KeptAnswer.{KeptAnswer}
+use Rattle.pages.specs.declared.Found.{Found}
 
 -- ---- an edge: the same, or both dead
 dead_first : (p q : Point) → point_fine p ≡ false → live_edge p q ≡ false
@@ -55,6 +55,6 @@ module _ (ps qs : List Point) (alike : (k : ℕ) → SameOrDead (sample_at k ps)
 
     pub search_alike : (h : Halves) (i k : ℕ) → search bs w ps h i k ≡ search bs w qs h i k
     unfolding search
-    search_alike single i k = ap (λ (t : Bool). when opens bs w i and t then found k 1 else none 1 1) (kept_alike k)
+    search_alike single i k = ap (λ (t : Bool). when opens bs w i and t then found k 1 else none 1) (kept_alike k)
     search_alike (halved f s) i k =
-        ap₂ (λ (a b : KeptAnswer). when opens bs w i then first_of a b else none 1 1) (search_alike f (i + 1) k) (search_alike s (i + 2 * edges_in f) (k + edges_in f))
+        ap₂ (λ (a b : Found). when opens bs w i then first_of a b else none 1) (search_alike f (i + 1) k) (search_alike s (i + 2 * edges_in f) (k + edges_in f))

@@ -2,10 +2,12 @@
 use Prim.Native.Nat.{ℕ, ◌+◌, ◌-◌, ◌/◌, ◌≤◌, ◌<◌}
 use native.Mathlib.Omega.{arith}
 use mathlib.Core.Path.{◌≡◌, refl, sym, ap, ap₂, subst, ◌∙◌}
-use mathlib.Core.Logic.{inl, inr}
-use mathlib.Core.Bool.{Bool, true, false, ◌||◌}
+use mathlib.Core.Logic.{◌⊎◌, inl, inr}
+use mathlib.Core.Bool.{true, false, false≢true}
 use mathlib.Core.List.{List}
 use lib.Ieee.{Float, lt, of_bits}
+use Rattle.std.specs.Prelude.{Option, None, Some}
+use Rattle.std.specs.Option.{is_some}
 use Rattle.float.specs.Choice.{when◌then◌else◌}
 use Rattle.float.specs.Float.{finite}
 use Rattle.float.proofs.Choice.{cases, then_is, else_is, and_parts, and_both}
@@ -13,7 +15,7 @@ use Rattle.float.proofs.UpTo.{test_finite}
 use Rattle.float.proofs.Whole.{le_or_lt}
 use Rattle.plane.specs.Point.{finite_point}
 use Rattle.plane.specs.Interval.{empty_interval, is_empty, lesser, greater, union_of, between, finite_interval}
-use Rattle.plane.specs.Rect.{empty_rect, box_of, contains_rect, union_rect, finite_rect}
+use Rattle.plane.specs.Rect.{empty_rect, box_of, contains_rect, finite_rect}
 use Rattle.plane.specs.Within.{InRect}
 use Rattle.plane.specs.declared.point.Point.{Point}
 use Rattle.plane.specs.declared.interval.Interval.{Interval}
@@ -23,9 +25,8 @@ use Rattle.plane.proofs.Promises.{promises}
 use Rattle.clip.specs.Refuse.{coordinate}
 use Rattle.trace.specs.Promises.{sample_at}
 use Rattle.pages.specs.Halves.{Halves, single, halved, edges_in, halves_of}
-use Rattle.pages.specs.Boxes.{extent, live_edge, edge_extent, joined, extent_of}
+use Rattle.pages.specs.Boxes.{live_edge, edge_extent, joined, extent_of, rect_of}
 use Rattle.pages.specs.Promises.{Below, itself, first, second}
-use Rattle.pages.specs.declared.boxes.Extent.{Extent}
 use Rattle.pages.proofs.Halving.{two_halves, edges_are}
 
 -- ---- every box is finite
@@ -56,10 +57,10 @@ finite_between x y f g =
     let (a, b) = between_ends (λ (z : Float). finite z ≡ true) x y (finite_coordinate x f) (finite_coordinate y g) in
     and_both _ _ a b
 
-finite_edge : (a b : Point) → finite_rect (edge_extent a b).rect ≡ true
+finite_edge : (a b : Point) → finite_rect (rect_of (edge_extent a b)) ≡ true
 unfolding edge_extent finite_rect
 finite_edge a b =
-    cases (λ (e : Extent). finite_rect e.rect ≡ true) _ _ _
+    cases (λ (e : Option Rect). finite_rect (rect_of e) ≡ true) _ _ _
     (λ f.
     let (p, q) = and_parts _ _ f in
     let (ax, ay) = and_parts _ _ p in
@@ -70,26 +71,37 @@ finite_edge a b =
     empty : finite_rect empty_rect ≡ true
     empty = unfold finite_rect finite_interval finite of_bits when◌then◌else◌ in refl
 
-pub finite_extent : (ps : List Point) (h : Halves) (k : ℕ) → finite_rect (extent_of ps h k).rect ≡ true
-unfolding extent_of finite_rect
-finite_extent ps single k = finite_edge _ _
-finite_extent ps (halved f s) k =
-    let (a, b) = and_parts _ _ (finite_extent ps f k) in
-    let (c, d) = and_parts _ _ (finite_extent ps s (k + edges_in f)) in
+finite_joined : (e g : Option Rect) → finite_rect (rect_of e) ≡ true → finite_rect (rect_of g) ≡ true → finite_rect (rect_of (joined e g)) ≡ true
+unfolding finite_rect
+finite_joined None g x y = y
+finite_joined (Some r) None x y = x
+finite_joined (Some r) (Some q) x y =
+    let (a, b) = and_parts _ _ x in
+    let (c, d) = and_parts _ _ y in
     and_both _ _ (finite_union _ _ a c) (finite_union _ _ b d)
 
--- ---- a live edge marks the boxes above it, which hold each point of its own
-pub record Marked (e : Extent) (p : Point) : Type 0 where
-  pub live : e.live ≡ true
-  pub inside : InRect e.rect p
+pub finite_extent : (ps : List Point) (h : Halves) (k : ℕ) → finite_rect (rect_of (extent_of ps h k)) ≡ true
+unfolding extent_of
+finite_extent ps single k = finite_edge _ _
+finite_extent ps (halved f s) k = finite_joined (extent_of ps f k) (extent_of ps s (k + edges_in f)) (finite_extent ps f k) (finite_extent ps s (k + edges_in f))
 
-or_right : (t u : Bool) → u ≡ true → (t || u) ≡ true
-or_right true u e = refl
-or_right false u e = e
+-- ---- a live edge marks the boxes above it, which hold each point of its own
+pub record Marked (e : Option Rect) (p : Point) : Type 0 where
+  pub live : is_some e ≡ true
+  pub inside : InRect (rect_of e) p
 
 edge_marked : (a b p : Point) → live_edge a b ≡ true → InRect (box_of a b) p → Marked (edge_extent a b) p
 unfolding edge_extent
-edge_marked a b p f i = subst (λ (e : Extent). Marked e p) (then_is _ _ _ _ f refl) (record { live = refl; inside = i })
+edge_marked a b p f i = subst (λ (e : Option Rect). Marked e p) (then_is _ _ _ _ f refl) (record { live = refl; inside = i })
+
+either_marked : (p : Point) (e g : Option Rect) → finite_rect (rect_of e) ≡ true → finite_rect (rect_of g) ≡ true → Marked e p ⊎ Marked g p → Marked (joined e g) p
+either_marked p None g x y (inl m) = absurd (false≢true m.live)
+either_marked p None g x y (inr m) = m
+either_marked p (Some r) None x y (inl m) = m
+either_marked p (Some r) None x y (inr m) = absurd (false≢true m.live)
+either_marked p (Some r) (Some q) x y s =
+    let both = (promises.of_two_rects r q x y).points_either p in
+    record { live = refl; inside = both (elim s [ inl m ↦ inl m.inside | inr m ↦ inr m.inside ]) }
 
 module _ (ps : List Point) (p : Point) (j : ℕ) (f : live_edge (sample_at j ps) (sample_at (j + 1) ps) ≡ true)
     (i : InRect (box_of (sample_at j ps) (sample_at (j + 1) ps)) p) where
@@ -99,15 +111,8 @@ module _ (ps : List Point) (p : Point) (j : ℕ) (f : live_edge (sample_at j ps)
       let e : j ≡ k = omega arith in
       subst (λ (n : ℕ). Marked (edge_extent (sample_at n ps) (sample_at (n + 1) ps)) p) e (edge_marked _ _ p f i)
   covered (halved a b) k l u =
-      let e = extent_of ps a k in
-      let g = extent_of ps b (k + edges_in a) in
-      let both = (promises.of_two_rects e.rect g.rect (finite_extent ps a k) (finite_extent ps b (k + edges_in a))).points_either p in
-      elim (le_or_lt (k + edges_in a) j) [
-        | inl v ↦
-            let m = covered b (k + edges_in a) v (omega arith) in
-            record { live = or_right e.live g.live m.live; inside = both (inr m.inside) }
-        | inr v ↦ let m = covered a k l v in record { live = ap (◌|| g.live) m.live; inside = both (inl m.inside) }
-      ]
+      either_marked p (extent_of ps a k) (extent_of ps b (k + edges_in a)) (finite_extent ps a k) (finite_extent ps b (k + edges_in a))
+      (elim (le_or_lt (k + edges_in a) j) [ inl v ↦ inr (covered b (k + edges_in a) v (omega arith)) | inr v ↦ inl (covered a k l v) ])
 
 -- the box of a live edge holds its first sample, so it has a point
 pub holds_own : (a b : Point) → live_edge a b ≡ true → InRect (box_of a b) a
@@ -129,25 +134,26 @@ in_any r = and_both _ _ (promises.empty_contained _ _ empty) (promises.empty_con
     empty = unfold is_empty lt of_bits in refl
 
 module _ (ps : List Point) (r : Rect) where
+  least_joined : (e g : Option Rect) → contains_rect r (rect_of e) ≡ true → contains_rect r (rect_of g) ≡ true → contains_rect r (rect_of (joined e g)) ≡ true
+  least_joined None g x y = y
+  least_joined (Some q) None x y = x
+  least_joined (Some q) (Some s) x y = promises.union_least_rect q s r x y
+
   pub least : (h : Halves) (k : ℕ)
       → ((j : ℕ) → k ≤ j → j < k + edges_in h → live_edge (sample_at j ps) (sample_at (j + 1) ps) ≡ true → contains_rect r (box_of (sample_at j ps) (sample_at (j + 1) ps)) ≡ true)
-      → contains_rect r (extent_of ps h k).rect ≡ true
+      → contains_rect r (rect_of (extent_of ps h k)) ≡ true
   unfolding extent_of edges_in edge_extent
-  least single k f = cases (λ (e : Extent). contains_rect r e.rect ≡ true) _ _ _ (λ l. f k (omega arith) (omega arith) l) (λ l. in_any r)
+  least single k f = cases (λ (e : Option Rect). contains_rect r (rect_of e) ≡ true) _ _ _ (λ l. f k (omega arith) (omega arith) l) (λ l. in_any r)
   least (halved a b) k f =
-      promises.union_least_rect _ _ r (least a k (λ j l u v. f j l (omega arith) v)) (least b (k + edges_in a) (λ j l u v. f j (omega arith) (omega arith) v))
+      least_joined (extent_of ps a k) (extent_of ps b (k + edges_in a)) (least a k (λ j l u v. f j l (omega arith) v)) (least b (k + edges_in a) (λ j l u v. f j (omega arith) (omega arith) v))
 
--- ---- without a live edge it is the empty rectangle, and not marked
+-- ---- without a live edge there is none
 module _ (ps : List Point) where
-  pub none_live : (h : Halves) (k : ℕ) → ((j : ℕ) → k ≤ j → j < k + edges_in h → live_edge (sample_at j ps) (sample_at (j + 1) ps) ≡ false)
-      → extent_of ps h k ≡ extent empty_rect false
+  pub none_live : (h : Halves) (k : ℕ) → ((j : ℕ) → k ≤ j → j < k + edges_in h → live_edge (sample_at j ps) (sample_at (j + 1) ps) ≡ false) → extent_of ps h k ≡ None
   unfolding extent_of edges_in edge_extent
   none_live single k f = sym (else_is _ _ _ _ (f k (omega arith) (omega arith)) refl)
   none_live (halved a b) k f =
-      ap₂ joined (none_live a k (λ j l u. f j l (omega arith))) (none_live b (k + edges_in a) (λ j l u. f j (omega arith) (omega arith))) ∙ both_empty
-    where
-      both_empty : joined (extent empty_rect false) (extent empty_rect false) ≡ extent empty_rect false
-      both_empty = unfold union_of is_empty lt of_bits when◌then◌else◌ in refl
+      ap₂ joined (none_live a k (λ j l u. f j l (omega arith))) (none_live b (k + edges_in a) (λ j l u. f j (omega arith) (omega arith)))
 
 -- ---- it contains the boxes below it
 contains_refl : (r : Rect) → finite_rect r ≡ true → contains_rect r r ≡ true
@@ -159,26 +165,29 @@ contains_trans r q s f g h a b =
     let (bx, bz) = (promises.of_two_rects q s g h).contains_axes.0 b in
     (promises.of_two_rects r s f h).contains_axes.1 (λ x i. ax x (bx x i), λ y i. ay y (bz y i))
 
+both_joined : (e g : Option Rect) → finite_rect (rect_of e) ≡ true → finite_rect (rect_of g) ≡ true
+    → (contains_rect (rect_of (joined e g)) (rect_of e) ≡ true) × (contains_rect (rect_of (joined e g)) (rect_of g) ≡ true)
+both_joined None g x y = (in_any (rect_of g), contains_refl (rect_of g) y)
+both_joined (Some r) None x y = (contains_refl r x, in_any r)
+both_joined (Some r) (Some q) x y = (promises.of_two_rects r q x y).union_both
+
 module _ (ps : List Point) where
   abbrev box_of_all : ℕ → ℕ → Rect
-  box_of_all n k = (extent_of ps (halves_of n) k).rect
+  box_of_all n k = rect_of (extent_of ps (halves_of n) k)
 
   fine : (n k : ℕ) → finite_rect (box_of_all n k) ≡ true
   fine n k = finite_extent ps (halves_of n) k
 
-  -- it is the union of its halves'
-  union_is : (n k : ℕ) → 2 ≤ n → box_of_all n k ≡ union_rect (box_of_all (n - n / 2) k) (box_of_all (n / 2) (k + (n - n / 2)))
+  -- it is that of its halves
+  joined_is : (n k : ℕ) → 2 ≤ n → extent_of ps (halves_of n) k ≡ joined (extent_of ps (halves_of (n - n / 2)) k) (extent_of ps (halves_of (n / 2)) (k + (n - n / 2)))
   unfolding extent_of
-  union_is n k two =
-      ap (λ (h : Halves). (extent_of ps h k).rect) (two_halves n two)
-      ∙ ap (λ (m : ℕ). union_rect (box_of_all (n - n / 2) k) (box_of_all (n / 2) (k + m))) (edges_are (n - n / 2) (omega arith))
+  joined_is n k two =
+      ap (λ (h : Halves). extent_of ps h k) (two_halves n two)
+      ∙ ap (λ (m : ℕ). joined (extent_of ps (halves_of (n - n / 2)) k) (extent_of ps (halves_of (n / 2)) (k + m))) (edges_are (n - n / 2) (omega arith))
 
   both_halves : (n k : ℕ) → 2 ≤ n → (contains_rect (box_of_all n k) (box_of_all (n - n / 2) k) ≡ true) × (contains_rect (box_of_all n k) (box_of_all (n / 2) (k + (n - n / 2))) ≡ true)
   both_halves n k two =
-      let f = box_of_all (n - n / 2) k in
-      let s = box_of_all (n / 2) (k + (n - n / 2)) in
-      subst (λ (r : Rect). (contains_rect r f ≡ true) × (contains_rect r s ≡ true)) (sym (union_is n k two))
-      (promises.of_two_rects f s (fine (n - n / 2) k) (fine (n / 2) (k + (n - n / 2)))).union_both
+      rw (joined_is n k two) (both_joined (extent_of ps (halves_of (n - n / 2)) k) (extent_of ps (halves_of (n / 2)) (k + (n - n / 2))) (fine (n - n / 2) k) (fine (n / 2) (k + (n - n / 2))))
 
   pub contains_below : {n i k m j l : ℕ} → Below n i k m j l → contains_rect (box_of_all n k) (box_of_all m l) ≡ true
   contains_below {n} {i} {k} itself = contains_refl (box_of_all n k) (fine n k)

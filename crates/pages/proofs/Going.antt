@@ -1,13 +1,14 @@
 -- The search by its cases, as the code goes through them; and how many boxes it opens at most.
 use Prim.Native.Nat.{ℕ, ◌+◌, ◌-◌, ◌*◌, ◌/◌, ◌≤◌, ◌<◌}
 use native.Mathlib.Omega.{arith}
-use mathlib.Core.Path.{◌≡◌, refl, sym, ap, ap₂, ◌∙◌}
+use mathlib.Core.Path.{◌≡◌, refl, sym, ap, ap₂, subst, ◌∙◌}
 use mathlib.Core.Bool.{Bool, true, false}
 use mathlib.Core.List.{List}
 use lib.Ieee.{Float}
-use borrow.Author.Tests.{eqb-true}
 use Rattle.float.specs.Choice.{when◌then◌else◌, ◌and◌}
-use Rattle.float.proofs.Choice.{cases, and_parts, then_is, else_is, when_eq, when_ne}
+use Rattle.float.proofs.Choice.{cases, and_parts, and_both, then_is, else_is}
+use Rattle.std.specs.Prelude.{Option, None, Some}
+use Rattle.std.specs.Option.{is_some}
 use Rattle.plane.specs.declared.point.Point.{Point}
 use Rattle.plane.specs.declared.rect.Rect.{Rect}
 use Rattle.plane.specs.Rect.{box_of}
@@ -15,8 +16,6 @@ use Rattle.clip.specs.Cut.{negative_slope}
 use Rattle.clip.specs.Turns.{axis_x, axis_y, sides_cut}
 use Rattle.clip.specs.Refuse.{point_fine, window_fine}
 use Rattle.clip.specs.Answers.{edge_answer, clipped}
-use Rattle.clip.specs.declared.compute.BoxCut.{BoxCut}
-use Rattle.clip.specs.declared.compute.BoxCut.TheVariants.{Inside, Outside}
 use Rattle.clip.proofs.AtOnce.{AllFit}
 use Rattle.clip.proofs.OwnBox.{own_answer}
 use Rattle.trace.specs.Trace.{edge_cut}
@@ -25,9 +24,8 @@ use Rattle.trace.specs.Promises.{sample_at}
 use Rattle.trace.proofs.OneEdge.{fine_edge}
 use Rattle.trace.proofs.Touch.{dead_edge}
 use Rattle.pages.specs.Halves.{Halves, single, halved, edges_in, halves_of}
-use Rattle.pages.specs.Inner.{Room}
 use Rattle.pages.specs.Search.{opens, kept_at, found, none, first_of, search}
-use Rattle.pages.specs.declared.KeptAnswer.{KeptAnswer}
+use Rattle.pages.specs.declared.Found.{Found}
 use Rattle.pages.proofs.Halving.{one_edge, two_halves, edges_are, some_edge}
 
 -- with touches the cut is `clip_edge`'s
@@ -36,40 +34,46 @@ unfolding edge_cut when◌then◌else◌
 with_touches w a b = refl
 
 -- ---- at most 2m - 1 boxes
-first_opened : (f s : KeptAnswer) → (first_of f s).opened ≤ f.opened + s.opened + 1
+first_opened : (f s : Found) → (first_of f s).opened ≤ f.opened + s.opened + 1
 unfolding first_of
-first_opened f s = cases (λ (r : KeptAnswer). r.opened ≤ f.opened + s.opened + 1) _ _ _ (λ e. omega arith) (λ e. omega arith)
+first_opened f s = cases (λ (r : Found). r.opened ≤ f.opened + s.opened + 1) _ _ _ (λ e. omega arith) (λ e. omega arith)
 
 module _ (bs : List Float) (w : Rect) (ps : List Point) where
   pub opened_most : (h : Halves) (i k : ℕ) → (search bs w ps h i k).opened + 1 ≤ 2 * edges_in h
   unfolding search edges_in
-  opened_most single i k = cases (λ (r : KeptAnswer). r.opened + 1 ≤ 2 * 1) _ _ _ (λ e. omega arith) (λ e. omega arith)
+  opened_most single i k = cases (λ (r : Found). r.opened + 1 ≤ 2 * 1) _ _ _ (λ e. omega arith) (λ e. omega arith)
   opened_most (halved f s) i k =
       let a = search bs w ps f (i + 1) k in
       let b = search bs w ps s (i + 2 * edges_in f) (k + edges_in f) in
-      cases (λ (r : KeptAnswer). r.opened + 1 ≤ 2 * (edges_in f + edges_in s)) _ _ _
+      cases (λ (r : Found). r.opened + 1 ≤ 2 * (edges_in f + edges_in s)) _ _ _
       (λ e. omega (arith, first_opened a b, opened_most f (i + 1) k, opened_most s (i + 2 * edges_in f) (k + edges_in f)))
       (λ e. omega (arith, some_edge f))
 
   -- ---- what is found is among them, and kept
-  abbrev pub Held : (k n : ℕ) → KeptAnswer → Type 0
-  Held k n r = r.number ≡ 0 → (r.edge < k + n) × (kept_at w ps r.edge ≡ true)
+  abbrev pub Held : (k n : ℕ) → Found → Type 0
+  Held k n r = (j : ℕ) → r.edge ≡ Some j → (j < k + n) × (kept_at w ps j ≡ true)
 
-  of_either : (k m n : ℕ) (a b : KeptAnswer) → Held k m a → Held (k + m) n b → Held k (m + n) (first_of a b)
+  of_either : (k m n : ℕ) (a b : Found) → Held k m a → Held (k + m) n b → Held k (m + n) (first_of a b)
   unfolding first_of
   of_either k m n a b f g =
-      cases (Held k (m + n)) _ _ _ (λ e z. let (u, v) = f (eqb-true _ _ e) in (omega arith, v)) (λ e z. let (u, v) = g z in (omega arith, v))
+      cases (Held k (m + n)) _ _ _ (λ e j z. let (u, v) = f j z in (omega arith, v)) (λ e j z. let (u, v) = g j z in (omega arith, v))
+
+  one_held : (k : ℕ) → kept_at w ps k ≡ true → Held k 1 (found k 1)
+  one_held k e j z = let q : k ≡ j = cc in (omega arith, subst (λ (i : ℕ). kept_at w ps i ≡ true) q e)
+
+  none_held : (k n : ℕ) → Held k n (none 1)
+  none_held k n j z = cc
 
   pub found_held : (h : Halves) (i k : ℕ) → Held k (edges_in h) (search bs w ps h i k)
   unfolding search edges_in
-  found_held single i k = cases (Held k 1) _ _ _ (λ e z. (omega arith, (and_parts _ _ e).1)) (λ e z. absurd (omega arith))
+  found_held single i k = cases (Held k 1) _ _ _ (λ e. one_held k (and_parts _ _ e).1) (λ e. none_held k 1)
   found_held (halved f s) i k =
       let a = found_held f (i + 1) k in
       let b = found_held s (i + 2 * edges_in f) (k + edges_in f) in
-      cases (Held k (edges_in f + edges_in s)) _ _ _ (λ e. of_either k (edges_in f) (edges_in s) _ _ a b) (λ e z. absurd (omega arith))
+      cases (Held k (edges_in f + edges_in s)) _ _ _ (λ e. of_either k (edges_in f) (edges_in s) _ _ a b) (λ e. none_held k (edges_in f + edges_in s))
 
   -- ---- by cases
-  pub shut : (h : Halves) (i k : ℕ) → opens bs w i ≡ false → none 1 1 ≡ search bs w ps h i k
+  pub shut : (h : Halves) (i k : ℕ) → opens bs w i ≡ false → none 1 ≡ search bs w ps h i k
   unfolding search
   shut single i k e = else_is _ _ _ _ (rw e (no_and (kept_at w ps k))) refl
     where
@@ -77,97 +81,74 @@ module _ (bs : List Float) (w : Rect) (ps : List Point) where
       no_and b = unfold when◌then◌else◌ in refl
   shut (halved f s) i k e = else_is _ _ _ _ e refl
 
-  module _ (n i k : ℕ) (o : opens bs w i ≡ true) where
-    one_is : n ≡ 1 → search bs w ps (halves_of n) i k ≡ (when kept_at w ps k then found k 1 else none 1 1)
+  -- ---- of n edges from edge k on, whose boxes lie from place i on
+  abbrev of_edges : ℕ → ℕ → ℕ → Found
+  of_edges i k n = search bs w ps (halves_of n) i k
+
+  pub all_shut : (i k n : ℕ) → opens bs w i ≡ false → none 1 ≡ of_edges i k n
+  all_shut i k n e = shut (halves_of n) i k e
+
+  module _ (i k n : ℕ) (o : opens bs w i ≡ true) where
+    one_is : n ≡ 1 → of_edges i k n ≡ (when kept_at w ps k then found k 1 else none 1)
     unfolding search when◌then◌else◌
     one_is e = rw (one_edge n e, o) refl
 
-    pub one_kept : n ≡ 1 → kept_at w ps k ≡ true → found k 1 ≡ search bs w ps (halves_of n) i k
+    pub one_kept : n ≡ 1 → kept_at w ps k ≡ true → found k 1 ≡ of_edges i k n
     one_kept e h = then_is _ _ _ _ h refl ∙ sym (one_is e)
 
-    pub one_not : n ≡ 1 → kept_at w ps k ≡ false → none 1 1 ≡ search bs w ps (halves_of n) i k
+    pub one_not : n ≡ 1 → kept_at w ps k ≡ false → none 1 ≡ of_edges i k n
     one_not e h = else_is _ _ _ _ h refl ∙ sym (one_is e)
 
-    module _ (two : 2 ≤ n) where
-      abbrev in_first : KeptAnswer
-      in_first = search bs w ps (halves_of (n - n / 2)) (i + 1) k
+    module _ (some : 1 ≤ n) (more : n ≡ 1 → ⊥) where
+      abbrev in_first : Found
+      in_first = of_edges (i + 1) k (n - n / 2)
 
-      abbrev in_second : KeptAnswer
-      in_second = search bs w ps (halves_of (n / 2)) (i + 2 * (n - n / 2)) (k + (n - n / 2))
+      abbrev in_second : Found
+      in_second = of_edges (i + 2 * (n - n / 2)) (k + (n - n / 2)) (n / 2)
 
-      both_is : first_of in_first in_second ≡ search bs w ps (halves_of n) i k
+      both_is : first_of in_first in_second ≡ of_edges i k n
       unfolding search
       both_is =
           let many : edges_in (halves_of (n - n / 2)) ≡ n - n / 2 = edges_are (n - n / 2) (omega arith) in
-          rw (two_halves n two) (then_is _ _ _ _ o (rw many refl))
+          rw (two_halves n (omega arith)) (then_is _ _ _ _ o (rw many refl))
 
-      pub in_first_lem : (a : KeptAnswer) → a ≡ in_first → a.number ≡ 0 → found a.edge (a.opened + 1) ≡ search bs w ps (halves_of n) i k
-      unfolding first_of
-      in_first_lem a e z = when_eq _ _ _ _ _ z refl ∙ ap (λ (r : KeptAnswer). first_of r in_second) e ∙ both_is
-
-      -- nothing was found in the first half, and so many boxes were opened with it
-      pub record Past (opened : ℕ) : Type 0 where
-        pub first : KeptAnswer
-        pub is : first ≡ in_first
-        pub none_there : first.number ≡ 0 → ⊥
-        pub count : opened ≡ first.opened + 1
-
-      -- it was gone through, or its box is shut
-      pub gone_through : (a : KeptAnswer) (opened : ℕ) → a ≡ in_first → (a.number ≡ 0 → ⊥) → opened ≡ a.opened + 1 → Past opened
-      gone_through a opened e z g = record { first = a; is = e; none_there = z; count = g }
-
-      pub passed_by : (opened : ℕ) → opens bs w (i + 1) ≡ false → opened ≡ 2 → Past opened
-      passed_by opened e g =
-          record { first = none 1 1; is = shut (halves_of (n - n / 2)) (i + 1) k e; none_there = λ z. omega arith; count = omega arith }
-
-      module _ (opened : ℕ) (past : Past opened) where
-        pub in_second_lem : (b : KeptAnswer) → b ≡ in_second
-            → record { number = b.number; edge = b.edge; opened = opened + b.opened } ≡ search bs w ps (halves_of n) i k
+      module _ (a : Found) (is : a ≡ in_first) where
+        pub in_first_lem : is_some a.edge ≡ true → record { edge = a.edge; opened = a.opened + 1 } ≡ of_edges i k n
         unfolding first_of
-        in_second_lem b f =
-            let a = past.first in
-            let h : opened + b.opened ≡ a.opened + b.opened + 1 = omega (arith, past.count) in
-            ap (λ (m : ℕ). record { number = b.number; edge = b.edge; opened = m }) h
-            ∙ when_ne _ _ _ _ _ past.none_there refl ∙ ap (λ (r : KeptAnswer). first_of r b) past.is ∙ ap (first_of in_first) f ∙ both_is
+        in_first_lem z = then_is _ _ _ _ z refl ∙ ap (λ (r : Found). first_of r in_second) is ∙ both_is
 
-        pub in_neither : opens bs w (i + 2 * (n - n / 2)) ≡ false → none 1 (opened + 1) ≡ search bs w ps (halves_of n) i k
-        in_neither e = in_second_lem (none 1 1) (shut (halves_of (n / 2)) (i + 2 * (n - n / 2)) (k + (n - n / 2)) e)
-
-  -- what was opened is a number of 64 bits
-  opened_few : (n i k : ℕ) (a : KeptAnswer) → 1 ≤ n → a ≡ search bs w ps (halves_of n) i k → a.opened + 1 ≤ 2 * n
-  opened_few n i k a h e = rw e (omega (arith, opened_most (halves_of n) i k, edges_are n h))
-
-  module _ (f r p k n : ℕ) (g : Room f r p k n) (o : opens bs w p ≡ true) (two : 2 ≤ n) where
-    pub first_few : (a : KeptAnswer) → a ≡ in_first n p k o two → a.opened ≤ 8192
-    first_few a e = omega (arith, g.within, g.few, opened_few (n - n / 2) (p + 1) k a (omega arith) e)
-
-    pub past_few : (opened : ℕ) → Past n p k o two opened → opened ≤ 8193
-    past_few opened past = omega (arith, past.count, first_few past.first past.is)
-
-    pub second_few : (b : KeptAnswer) → b ≡ in_second n p k o two → b.opened ≤ 8192
-    second_few b e = omega (arith, g.within, g.few, opened_few (n / 2) (p + 2 * (n - n / 2)) (k + (n - n / 2)) b (omega arith) e)
+        pub in_second_lem : is_some a.edge ≡ false → (opened : ℕ) → opened ≡ a.opened + 1 → (c : Found) → c ≡ in_second → record { edge = c.edge; opened = opened + c.opened } ≡ of_edges i k n
+        unfolding first_of
+        in_second_lem z opened e c f =
+            let h : opened + c.opened ≡ a.opened + c.opened + 1 = omega (arith, e) in
+            ap (λ (m : ℕ). record { edge = c.edge; opened = m }) h
+            ∙ else_is _ _ _ _ z refl ∙ ap₂ first_of is f ∙ both_is
 
 -- ---- one edge is kept or not
-pub dead_not : (a b : Point) (w : Rect) (p q t : Bool) → p ≡ point_fine a → q ≡ point_fine b → t ≡ (p and q) → t ≡ false → false ≡ is_kept (edge_cut true w a b)
-unfolding is_kept
-dead_not a b w p q t ep eq et e = ap is_kept (dead_edge true a b w (sym (et ∙ ap₂ ◌and◌ ep eq) ∙ e))
+module _ (a b : Point) (w : Rect) where
+  dead_is : (point_fine a and point_fine b) ≡ false → false ≡ is_kept (edge_cut true w a b)
+  unfolding is_kept
+  dead_is e = ap is_kept (dead_edge true a b w e)
 
--- of a live edge, by what the calls gave
-module _ (a b : Point) (w : Rect) (fits : AllFit a b w) (v : window_fine w ≡ true) (p q t : Bool) (ep : p ≡ point_fine a) (eq : q ≡ point_fine b) (et : t ≡ (p and q)) (e : t ≡ true)
-    (n : Bool) (en : n ≡ negative_slope a b) (first : Rect) (ef : first ≡ box_of a b) (m : BoxCut) (em : m ≡ sides_cut true 4 false (axis_x a b w first) (axis_y a b w first) n) where
-  pub cut_is : edge_answer a b m ≡ edge_cut true w a b
-  cut_is =
-      own_answer a b w fits (fine_edge a b w v (sym (et ∙ ap₂ ◌and◌ ep eq) ∙ e)) n en first ef m em (edge_answer a b m) refl
-      ∙ sym (with_touches w a b)
+  pub first_dead : point_fine a ≡ false → false ≡ is_kept (edge_cut true w a b)
+  first_dead e = dead_is (sym (else_is _ _ _ _ e refl))
 
-module _ (a b : Point) (w : Rect) (m : BoxCut) (is : edge_answer a b m ≡ edge_cut true w a b) where
-  pub kept_yes : (r : Rect) → m ≡ Inside r → true ≡ is_kept (edge_cut true w a b)
+  pub second_dead : point_fine a ≡ true → point_fine b ≡ false → false ≡ is_kept (edge_cut true w a b)
+  second_dead e f = dead_is (sym (then_is _ _ _ _ e (sym f)))
+
+  some_kept : (c : Option Rect) → is_some c ≡ is_kept (edge_answer a b c)
   unfolding is_kept edge_answer
-  kept_yes r i = ap (λ (c : BoxCut). is_kept (edge_answer a b c)) (sym i) ∙ ap is_kept is
+  some_kept None = refl
+  some_kept (Some r) = refl
 
-  pub kept_no : m ≡ Outside → false ≡ is_kept (edge_cut true w a b)
-  unfolding is_kept edge_answer
-  kept_no o = ap (λ (c : BoxCut). is_kept (edge_answer a b c)) (sym o) ∙ ap is_kept is
+  -- of a live edge, by what the calls gave
+  pub live_is : AllFit a b w → window_fine w ≡ true → point_fine a ≡ true → point_fine b ≡ true
+      → (n : Bool) → n ≡ negative_slope a b → (first : Rect) → first ≡ box_of a b
+      → (m : Option Rect) → m ≡ sides_cut true 4 false (axis_x a b w first) (axis_y a b w first) n → is_some m ≡ is_kept (edge_cut true w a b)
+  live_is fits v x y n en first ef m em =
+      some_kept m ∙ ap is_kept (own_answer a b w fits (fine_edge a b w v (and_both _ _ x y)) n en first ef m em (edge_answer a b m) refl ∙ sym (with_touches w a b))
+
+pub ruleset dead_ways = (first_dead, second_dead)
 
 -- of the samples of an edge
 pub kept_at_lem : (t : Bool) (a b : Point) (w : Rect) (ps : List Point) (k : ℕ) → t ≡ is_kept (edge_cut true w a b) → a ≡ sample_at k ps → b ≡ sample_at (k + 1) ps

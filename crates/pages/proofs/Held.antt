@@ -8,16 +8,17 @@ use mathlib.Core.List.{List, ◌++◌}
 use lib.Ieee.{Float, nan, eq, of_bits}
 use lib.ListN.{length, get_or, get_or-append, length-append}
 use lib.Seq.{get_or-append-add}
+use Rattle.std.specs.Prelude.{Option}
+use Rattle.std.specs.Option.{is_some}
 use Rattle.float.specs.Choice.{when◌then◌else◌, ◌and◌}
 use Rattle.float.specs.Float.{one_f, zero_f}
 use Rattle.plane.specs.Rect.{intersects_rect}
 use Rattle.plane.specs.declared.point.Point.{Point}
 use Rattle.plane.specs.declared.rect.Rect.{Rect}
 use Rattle.pages.specs.Halves.{Halves, single, halved, edges_in, halves_of}
-use Rattle.pages.specs.Boxes.{five_floats, extent_of, boxes_of}
+use Rattle.pages.specs.Boxes.{extent_of, rect_of, five_floats, boxes_of}
 use Rattle.pages.specs.Search.{box_at, opens}
 use Rattle.pages.specs.Promises.{Below, itself, first, second, mark_at}
-use Rattle.pages.specs.declared.boxes.Extent.{Extent}
 use Rattle.pages.proofs.Halving.{two_halves, edges_are}
 use Rattle.pages.proofs.Filling.{length_boxes}
 
@@ -68,21 +69,21 @@ mark : (t : Bool) → eq (when t then one_f else zero_f) one_f ≡ t
 mark true = unfold when◌then◌else◌ eq of_bits in refl
 mark false = unfold when◌then◌else◌ eq of_bits in refl
 
-module _ (bs : List Float) (i : ℕ) (e : Extent) (h : Holds bs (5 * i) (five_floats e)) where
-  pub rect_held : box_at bs i ≡ e.rect
+module _ (bs : List Float) (i : ℕ) (e : Option Rect) (h : Holds bs (5 * i) (five_floats e)) where
+  pub rect_held : box_at bs i ≡ rect_of e
   rect_held =
-      let a : get_or bs (5 * i) nan ≡ e.rect.x.lo = ap (λ (n : ℕ). get_or bs n nan) (sym (add-zero (5 * i))) ∙ h 0 (omega arith) in
-      let b : get_or bs (5 * i + 1) nan ≡ e.rect.y.lo = h 1 (omega arith) in
-      let c : get_or bs (5 * i + 2) nan ≡ e.rect.x.hi = h 2 (omega arith) in
-      let d : get_or bs (5 * i + 3) nan ≡ e.rect.y.hi = h 3 (omega arith) in
+      let a : get_or bs (5 * i) nan ≡ (rect_of e).x.lo = ap (λ (n : ℕ). get_or bs n nan) (sym (add-zero (5 * i))) ∙ h 0 (omega arith) in
+      let b : get_or bs (5 * i + 1) nan ≡ (rect_of e).y.lo = h 1 (omega arith) in
+      let c : get_or bs (5 * i + 2) nan ≡ (rect_of e).x.hi = h 2 (omega arith) in
+      let d : get_or bs (5 * i + 3) nan ≡ (rect_of e).y.hi = h 3 (omega arith) in
       rw (a, b, c, d) refl
 
-  pub mark_held : mark_at bs i ≡ (when e.live then one_f else zero_f)
+  pub mark_held : mark_at bs i ≡ (when is_some e then one_f else zero_f)
   mark_held = h 4 (omega arith)
 
   -- opens where it is marked and shares a point
-  pub opens_is : (w : Rect) → opens bs w i ≡ (e.live and intersects_rect e.rect w)
+  pub opens_is : (w : Rect) → opens bs w i ≡ (is_some e and intersects_rect (rect_of e) w)
   unfolding opens
   opens_is w =
       ap (λ (r : Rect). eq (mark_at bs i) one_f and intersects_rect r w) rect_held
-      ∙ ap (◌and intersects_rect e.rect w) (ap (λ (m : Float). eq m one_f) mark_held ∙ mark e.live)
+      ∙ ap (◌and intersects_rect (rect_of e) w) (ap (λ (m : Float). eq m one_f) mark_held ∙ mark (is_some e))

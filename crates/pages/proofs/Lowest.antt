@@ -2,7 +2,7 @@
 use Prim.Native.Nat.{ℕ, zero, suc, ◌+◌, ◌-◌, ◌≤◌, ◌<◌}
 use native.Mathlib.Omega.{arith}
 use mathlib.Core.Path.{◌≡◌, refl, sym, ap, subst, ◌∙◌}
-use mathlib.Core.Logic.{◌⊎◌, inl, inr, ◌↔◌}
+use mathlib.Core.Logic.{inl, inr, ◌↔◌}
 use mathlib.Core.Bool.{Bool, true, false, true≢false}
 use mathlib.Core.List.{List, [], ◌∷◌}
 use lib.Ieee.{Float}
@@ -11,13 +11,13 @@ use Rattle.float.specs.Choice.{when◌then◌else◌}
 use Rattle.float.proofs.Whole.{le_or_lt}
 use Rattle.plane.specs.declared.point.Point.{Point}
 use Rattle.plane.specs.declared.rect.Rect.{Rect}
-use Rattle.answer.proofs.Beside.{beside_done}
+use Rattle.std.specs.Prelude.{Option, None, Some, Ok}
+use Rattle.answer.specs.Refusal.{number, value_or, done}
 use Rattle.record.specs.Record.{record_at}
-use Rattle.clip.specs.Answers.{number_of}
-use Rattle.clip.specs.declared.Clipped.{Clipped}
 use Rattle.clip.proofs.Promises.{promises}
-use Rattle.trace.specs.Trace.{samples_of, edge_cut, trace_cuts}
+use Rattle.trace.specs.Trace.{Clipped, samples_of, edge_cut, trace_cuts}
 use Rattle.trace.specs.Records.{is_kept, how_many}
+use Rattle.trace.specs.Refuse.{trace_refusal}
 use Rattle.trace.specs.Answers as trace
 use Rattle.trace.specs.Promises.{sample_at}
 use Rattle.trace.proofs.Cuts.{length_samples, length_trace}
@@ -26,79 +26,81 @@ use Rattle.trace.proofs.Promises as trace_proofs
 use Rattle.pages.specs.Search.{kept_at}
 use Rattle.pages.specs.Answers.{edge_count}
 use Rattle.pages.specs.Promises.{first_kept, Scanned}
-use Rattle.pages.specs.declared.KeptAnswer.{KeptAnswer}
-use Rattle.pages.proofs.Scan.{hit_of, kept_number_lem, first_from, scan_is}
+use Rattle.trace.specs.declared.Counts.{Counts}
+use Rattle.pages.proofs.Scan.{kept_cut, first_from, scan_is}
 use Rattle.pages.proofs.Going.{with_touches}
+use Rattle.pages.proofs.Exits.{taken}
 
--- ---- of a list of cuts: 1 exactly when none is kept
-first_none : (k : ℕ) (cs : List Clipped) → ((first_kept k cs).0 ≡ 1) ↔ (how_many is_kept cs ≡ 0)
+-- ---- of a list of cuts: none exactly when none is kept
+first_none : (k : ℕ) (cs : List Clipped) → (first_kept k cs ≡ None) ↔ (how_many is_kept cs ≡ 0)
 unfolding first_kept how_many
 first_none k [] = (λ e. refl, λ e. refl)
 first_none k (c ∷ cs) = go (is_kept c) (first_none (suc k) cs)
   where
-    go : (t : Bool) → ((first_kept (suc k) cs).0 ≡ 1) ↔ (how_many is_kept cs ≡ 0)
-        → ((when t then (0, k) else first_kept (suc k) cs).0 ≡ 1) ↔ ((when t then 1 else 0) + how_many is_kept cs ≡ 0)
-    go true e = unfold when◌then◌else◌ in (λ h. absurd (omega arith), λ h. absurd (omega arith))
+    go : (t : Bool) → (first_kept (suc k) cs ≡ None) ↔ (how_many is_kept cs ≡ 0)
+        → ((when t then Some k else first_kept (suc k) cs) ≡ None) ↔ ((when t then 1 else 0) + how_many is_kept cs ≡ 0)
+    go true e = unfold when◌then◌else◌ in (λ h. cc, λ h. absurd (omega arith))
     go false (f, g) = unfold when◌then◌else◌ in (λ h. omega (arith, f h), λ h. g (omega arith))
 
--- ---- by number: what is found is one of them and kept, and none before it is
-pub record Found (w : Rect) (ps : List Point) (k n : ℕ) (hit : ℕ × ℕ) : Type 0 where
-  pub one_or_none : (hit.0 ≡ 0) ⊎ (hit.0 ≡ 1)
-  pub among : hit.0 ≡ 0 → hit.1 < k + n
-  pub kept : hit.0 ≡ 0 → kept_at w ps hit.1 ≡ true
-  pub lowest : hit.0 ≡ 0 → (j : ℕ) → k ≤ j → j < hit.1 → kept_at w ps j ≡ false
+-- ---- what is found is one of them and kept, and none before it is
+pub record Lowest (w : Rect) (ps : List Point) (k n : ℕ) (hit : Option ℕ) : Type 0 where
+  pub among : (j : ℕ) → hit ≡ Some j → j < k + n
+  pub kept : (j : ℕ) → hit ≡ Some j → kept_at w ps j ≡ true
+  pub lowest : (j : ℕ) → hit ≡ Some j → (i : ℕ) → k ≤ i → i < j → kept_at w ps i ≡ false
 
 module _ (w : Rect) (ps : List Point) where
-  found_step : (k n : ℕ) (rest : ℕ × ℕ) (t : Bool) → kept_at w ps k ≡ t → Found w ps (suc k) n rest → Found w ps k (suc n) (when t then (0, k) else rest)
+  step : (k n : ℕ) (rest : Option ℕ) (t : Bool) → kept_at w ps k ≡ t → Lowest w ps (suc k) n rest → Lowest w ps k (suc n) (when t then Some k else rest)
   unfolding when◌then◌else◌
-  found_step k n rest true e f = record { one_or_none = inl refl; among = λ z. omega arith; kept = λ z. e; lowest = λ z j l u. absurd (omega arith) }
-  found_step k n rest false e f =
+  step k n rest true e f =
       record {
-        one_or_none = f.one_or_none;
-        among = λ z. omega (arith, f.among z);
+        among = λ j z. let q : k ≡ j = cc in omega arith;
+        kept = λ j z. let q : k ≡ j = cc in subst (λ (i : ℕ). kept_at w ps i ≡ true) q e;
+        lowest = λ j z i l u. let q : k ≡ j = cc in absurd (omega arith);
+      }
+  step k n rest false e f =
+      record {
+        among = λ j z. omega (arith, f.among j z);
         kept = f.kept;
-        lowest = λ z j l u. elim (le_or_lt (suc k) j) [ inl m ↦ f.lowest z j m u | inr m ↦ let g : j ≡ k = omega arith in ap (kept_at w ps) g ∙ e ];
+        lowest = λ j z i l u. elim (le_or_lt (suc k) i) [ inl m ↦ f.lowest j z i m u | inr m ↦ let g : i ≡ k = omega arith in ap (kept_at w ps) g ∙ e ];
       }
 
-  found_from : (k n : ℕ) → Found w ps k n (first_from w ps k n)
+  lowest_from : (k n : ℕ) → Lowest w ps k n (first_from w ps k n)
   unfolding first_from
-  found_from k zero = record { one_or_none = inr refl; among = λ e. absurd (omega arith); kept = λ e. absurd (omega arith); lowest = λ e. absurd (omega arith) }
-  found_from k (suc n) = found_step k n (first_from w ps (suc k) n) (kept_at w ps k) refl (found_from (suc k) n)
+  lowest_from k zero = record { among = λ j e. cc; kept = λ j e. cc; lowest = λ j e. cc }
+  lowest_from k (suc n) = step k n (first_from w ps (suc k) n) (kept_at w ps k) refl (lowest_from (suc k) n)
 
 -- ---- beside `cut_trace_with_touches`
-module _ (fs : List Float) (w : Rect) (whose : ℕ) (ys : List ℕ) (r : KeptAnswer)
-    (hit : hit_of r ≡ first_kept 0 (trace_cuts true w fs)) (fine : (trace.answer_of true fs w (length ys)).number ≡ 0) where
+module _ (fs : List Float) (w : Rect) (whose : ℕ) (ys : List ℕ) (n : Counts) (hit : Option ℕ)
+    (is : hit ≡ first_kept 0 (trace_cuts true w fs)) (fine : trace.answer_of true fs w (length ys) ≡ Ok n) where
   abbrev ps : List Point
   ps = samples_of fs
 
-  found : Found w ps 0 (length ps - 1) (hit_of r)
-  found = subst (Found w ps 0 (length ps - 1)) (scan_is w ps ∙ sym hit) (found_from w ps 0 (length ps - 1))
+  own : Lowest w ps 0 (length ps - 1) hit
+  own = subst (Lowest w ps 0 (length ps - 1)) (scan_is w ps ∙ sym is) (lowest_from w ps 0 (length ps - 1))
 
-  count : how_many is_kept (trace_cuts true w fs) ≡ (trace.answer_of true fs w (length ys)).kept
-  count = beside_done _ _ _ fine
+  answered : (trace_refusal fs w (length ys) ≡ done) × (trace.counts_of (trace_cuts true w fs) ≡ n)
+  answered = taken (trace_refusal fs w (length ys)) (trace.counts_of (trace_cuts true w fs)) n fine
 
-  none_kept : (r.number ≡ 1) ↔ ((trace.answer_of true fs w (length ys)).kept ≡ 0)
+  none_kept : (hit ≡ None) ↔ (n.kept ≡ 0)
   none_kept =
       let (f, g) = first_none 0 (trace_cuts true w fs) in
-      let n : r.number ≡ (first_kept 0 (trace_cuts true w fs)).0 = ap (λ (h : ℕ × ℕ). h.0) hit in
-      (λ e. sym count ∙ f (sym n ∙ e), λ e. n ∙ g (count ∙ e))
+      (λ e. rw (← answered.1) (f (sym is ∙ e)), λ e. is ∙ g (rw (← answered.1) at e))
 
   -- byte 0 of the record of an edge that is there
   byte_is : (k : ℕ) → k < edge_count (length fs)
-      → get_or (record_at k (trace.buffer_after true ys fs w whose)) 0 0 ≡ number_of (edge_cut true w (sample_at k ps) (sample_at (k + 1) ps))
+      → get_or (record_at k (trace.buffer_after true ys fs w whose)) 0 0 ≡ number (edge_cut true w (sample_at k ps) (sample_at (k + 1) ps))
   byte_is k h =
-      let all : length (trace_cuts true w fs) ≡ (trace.answer_of true fs w (length ys)).edges = beside_done _ _ _ fine in
-      let many = length_trace true w fs in
-      ap (λ (bs : List ℕ). get_or bs 0 0) (((trace_proofs.promises).lent true ys fs w).records whose k (omega (arith, all, many)))
+      let there : k < (value_or trace.no_edges (trace.answer_of true fs w (length ys))).edges = rw answered.0 (omega (arith, h, length_trace true w fs)) in
+      ap (λ (bs : List ℕ). get_or bs 0 0) (((trace_proofs.promises).lent true ys fs w).records whose k there)
       ∙ number_is true whose w ps k (omega (arith, length_samples fs))
 
-  there : r.number ≡ 0 → r.edge < edge_count (length fs)
-  there z = omega (arith, found.among z, length_samples fs)
+  there : (k : ℕ) → hit ≡ Some k → k < edge_count (length fs)
+  there k z = omega (arith, own.among k z, length_samples fs)
 
   -- a record says kept where the edge is
   says_kept : (k : ℕ) → k < edge_count (length fs) → kept_at w ps k ≡ true → get_or (record_at k (trace.buffer_after true ys fs w whose)) 0 0 ≡ 0
   unfolding kept_at
-  says_kept k h e = byte_is k h ∙ kept_number_lem _ e
+  says_kept k h e = let (s, c) = kept_cut _ e in byte_is k h ∙ ap number c
 
   said_kept : (k : ℕ) → k < edge_count (length fs) → get_or (record_at k (trace.buffer_after true ys fs w whose)) 0 0 ≡ 0 → kept_at w ps k ≡ true
   unfolding kept_at is_kept
@@ -106,14 +108,13 @@ module _ (fs : List Float) (w : Rect) (whose : ℕ) (ys : List ℕ) (r : KeptAns
       let a = sample_at k ps in
       let b = sample_at (k + 1) ps in
       let c = with_touches w a b in
-      ap is_kept (c ∙ promises.zero_kept a b w (sym (ap number_of c) ∙ sym (byte_is k h) ∙ e))
+      ap is_kept (c ∙ promises.zero_kept a b w (sym (ap number c) ∙ sym (byte_is k h) ∙ e))
 
-  pub scanned : Scanned fs w whose ys r
+  pub scanned : Scanned fs w whose ys n hit
   scanned =
       record {
         none_kept = none_kept;
-        or_found = λ n. elim found.one_or_none [ inl z ↦ z | inr z ↦ absurd (n z) ];
         there = there;
-        kept = λ z. says_kept r.edge (there z) (found.kept z);
-        lowest = λ z j l e. true≢false (sym (said_kept j (omega (arith, there z)) e) ∙ found.lowest z j (omega arith) l);
+        kept = λ k z. says_kept k (there k z) (own.kept k z);
+        lowest = λ k z j l e. true≢false (sym (said_kept j (omega (arith, there k z)) e) ∙ own.lowest k z j (omega arith) l);
       }

@@ -1,5 +1,5 @@
 -- When a box opens: the test in code, and that no box with a NaN in it does.
-use Prim.Native.Nat.{ℕ, zero, suc, ◌+◌, ◌*◌, ◌<◌}
+use Prim.Native.Nat.{ℕ, zero, suc, ◌+◌, ◌-◌, ◌*◌, ◌<◌}
 use native.Mathlib.Nat.{add-zero}
 use native.Mathlib.Omega.{arith}
 use mathlib.Core.Path.{◌≡◌, refl, sym, ap, ◌∙◌}
@@ -7,11 +7,13 @@ use mathlib.Core.Logic.{inl, inr}
 use mathlib.Core.Bool.{Bool, true, false, true≢false}
 use mathlib.Core.List.{List}
 use lib.Ieee.{Float, nan, is_nan, le, eq}
-use lib.ListN.{get_or}
+use lib.ListN.{take, drop, get_or}
+use lib.Seq.{get_or-take, get_or-drop}
+use Rattle.float.specs.Choice.{◌and◌}
 use Rattle.float.specs.Float.{one_f}
 use Rattle.float.proofs.Choice.{cases, and_parts, then_is, else_is, same}
 use Rattle.float.proofs.Order.{Num, le_num, le_refl, le_trans, total, eq_le}
-use Rattle.plane.specs.Interval.{intersects}
+use Rattle.plane.specs.Interval.{from◌to◌, intersects}
 use Rattle.plane.specs.Rect.{intersects_rect}
 use Rattle.plane.specs.Within.{Some, Share, SomeRect}
 use Rattle.plane.specs.declared.interval.Interval.{Interval}
@@ -47,24 +49,38 @@ module _ (i j : Interval) (some : Some j) where
             | inr l ↦ (i.lo, record { low = le_refl _ m; high = e }, record { low = l; high = a })
           ]
 
+pub ruleset sides = (above, below, over)
+
 -- ---- a box
 module _ (bs : List Float) (w : Rect) (i : ℕ) where
-  pub no_mark : eq (get_or bs (5 * i + 4) nan) one_f ≡ false → false ≡ opens bs w i
-  unfolding opens
-  no_mark d = else_is _ _ _ _ d refl
-
   pub misses : intersects_rect (box_at bs i) w ≡ false → opens bs w i ≡ false
   unfolding opens
   misses d = cases (λ (t : Bool). t ≡ false) _ _ _ (λ e. d) (λ e. refl)
 
-  module _ (m : eq (get_or bs (5 * i + 4) nan) one_f ≡ true) where
-    pub x_misses : intersects (box_at bs i).x w.x ≡ false → false ≡ opens bs w i
-    unfolding opens intersects_rect
-    x_misses d = then_is _ _ _ _ m (else_is _ _ _ _ d refl)
+  -- by its five floats, as the code reads them
+  module _ (five : List Float) (is : five ≡ take (5 * i + 5 - 5 * i) (drop (5 * i) bs)) where
+    float_is : (j : ℕ) → j < 5 → get_or five j nan ≡ get_or bs (5 * i + j) nan
+    float_is j h = rw is (get_or-take (5 * i + 5 - 5 * i) (drop (5 * i) bs) j nan (omega arith) ∙ get_or-drop (5 * i) bs j nan)
 
-    pub x_meets : intersects (box_at bs i).x w.x ≡ true → (r : Bool) → r ≡ intersects (box_at bs i).y w.y → r ≡ opens bs w i
+    abbrev x_side : Interval
+    x_side = from get_or five 0 nan to get_or five 2 nan
+
+    abbrev y_side : Interval
+    y_side = from get_or five 1 nan to get_or five 3 nan
+
+    opens_is : (eq (get_or five 4 nan) one_f and (intersects x_side w.x and intersects y_side w.y)) ≡ opens bs w i
     unfolding opens intersects_rect
-    x_meets d r e = then_is _ _ _ _ m (then_is _ _ _ _ d e)
+    opens_is = rw (float_is 0 (omega arith), float_is 1 (omega arith), float_is 2 (omega arith), float_is 3 (omega arith), float_is 4 (omega arith), add-zero (5 * i)) refl
+
+    pub no_mark : eq (get_or five 4 nan) one_f ≡ false → false ≡ opens bs w i
+    no_mark d = else_is _ _ _ _ d refl ∙ opens_is
+
+    module _ (m : eq (get_or five 4 nan) one_f ≡ true) where
+      pub x_misses : intersects x_side w.x ≡ false → false ≡ opens bs w i
+      x_misses d = then_is _ _ _ _ m (else_is _ _ _ _ d refl) ∙ opens_is
+
+      pub x_meets : intersects x_side w.x ≡ true → (r : Bool) → r ≡ intersects y_side w.y → r ≡ opens bs w i
+      x_meets d r e = then_is _ _ _ _ m (then_is _ _ _ _ d e) ∙ opens_is
 
 -- ---- a window that is not refused
 some_side : (i : Interval) → sides_fine i ≡ true → Some i
@@ -74,6 +90,14 @@ some_side i f = (and_parts _ _ f).1
 pub some_window : (w : Rect) → window_fine w ≡ true → SomeRect w
 unfolding window_fine
 some_window w f = let (x, y) = and_parts _ _ f in record { x = some_side w.x x; y = some_side w.y y }
+
+pub some_x : (w : Rect) → window_fine w ≡ true → le w.x.lo w.x.hi ≡ true
+some_x w f = (some_window w f).x
+
+pub some_y : (w : Rect) → window_fine w ≡ true → le w.y.lo w.y.hi ≡ true
+some_y w f = (some_window w f).y
+
+pub ruleset some_sides = (some_x, some_y)
 
 -- ---- a box that opens has no NaN among its five floats
 equal_num : (x y : Float) → eq x y ≡ true → Num x

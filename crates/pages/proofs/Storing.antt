@@ -38,13 +38,3 @@ module _ {A : Type 0} where
     where
       zero_plus : (n : ℕ) → 0 + n ≡ n
       zero_plus n = omega arith
-
-  -- five stores in a row are a run
-  pub five_stores : (l : List A) (p : ℕ) (a b c d e f : A) → e ≡ f
-      → set (set (set (set (set l p a) (p + 1) b) (p + 2) c) (p + 3) d) (p + 4) e ≡ sets l p (a ∷ b ∷ c ∷ d ∷ f ∷ [])
-  five_stores l p a b c d e f h =
-      let one : p + 1 ≡ suc p = omega arith in
-      let two : p + 2 ≡ suc (suc p) = omega arith in
-      let three : p + 3 ≡ suc (suc (suc p)) = omega arith in
-      let four : p + 4 ≡ suc (suc (suc (suc p))) = omega arith in
-      rw (h, one, two, three, four) refl

@@ -1,7 +1,8 @@
--- What is refused, 10, then 3 for a window, then 8; the answers beside it; and what is in the lent buffer after the boxes were built.
-use Rattle.std.specs.Prelude.{ℕ, ◌-◌, ◌*◌, ◌/◌, Bool, true, List, [], ◌++◌, eqb, leb, Float, length, drop}
+-- What is refused, 10, then 3 for a window, then 8; the answers where nothing is; and what is in the lent buffer after the boxes were built.
+use Rattle.std.specs.Prelude.{ℕ, ◌-◌, ◌*◌, ◌/◌, Bool, true, List, [], ◌++◌, eqb, leb, Float, length, drop, Result, Ok}
 use Rattle.float.specs.Choice.{when◌then◌else◌}
-use Rattle.answer.specs.Answer.{beside, missed}
+use Rattle.answer.specs.Refusal.{◌then◌, value_or}
+use Rattle.answer.specs.declared.Refusal.{Refusal}
 use Rattle.plane.specs.declared.rect.Rect.{Rect}
 use Rattle.clip.specs.Refuse.{window_fine}
 use Rattle.trace.specs.Trace.{samples_of}
@@ -9,8 +10,7 @@ use Rattle.trace.specs.Refuse.{trace_fine, in_order}
 use Rattle.pages.specs.Halves.{halves_of}
 use Rattle.pages.specs.Boxes.{boxes_of}
 use Rattle.pages.specs.Search.{none, search}
-use Rattle.pages.specs.declared.PagesAnswer.{PagesAnswer}
-use Rattle.pages.specs.declared.KeptAnswer.{KeptAnswer}
+use Rattle.pages.specs.declared.Found.{Found}
 
 -- ---- of so many floats of a trace
 
@@ -26,17 +26,16 @@ abbrev pub boxes_fit : ℕ → ℕ → Bool
 boxes_fit edges room = leb (floats_for edges) room
 
 -- with so many floats lent; a window is asked for where there is one
-abbrev pub pages_number : ℕ → ℕ → ℕ
-pages_number floats room = in_order (trace_fine floats) true (boxes_fit (edge_count floats) room)
+abbrev pub pages_refusal : ℕ → ℕ → Result (Unit {0}) Refusal
+pages_refusal floats room = in_order (trace_fine floats) true (boxes_fit (edge_count floats) room)
 
-abbrev pub kept_number : ℕ → Rect → ℕ → ℕ
-kept_number floats w room = in_order (trace_fine floats) (window_fine w) (boxes_fit (edge_count floats) room)
+abbrev pub kept_refusal : ℕ → Rect → ℕ → Result (Unit {0}) Refusal
+kept_refusal floats w room = in_order (trace_fine floats) (window_fine w) (boxes_fit (edge_count floats) room)
 
 -- ---- `build_pages`
 
-abbrev pub pages_answer : ℕ → ℕ → PagesAnswer
-pages_answer floats room =
-    record { number = pages_number floats room; floats = beside (pages_number floats room) (floats_for (edge_count floats)) 0 }
+abbrev pub pages_answer : ℕ → ℕ → Result ℕ Refusal
+pages_answer floats room = pages_refusal floats room then Ok (floats_for (edge_count floats))
 
 -- the boxes of all edges of a trace
 unfoldable pub trace_boxes : List Float → List Float
@@ -44,20 +43,18 @@ trace_boxes fs =
     let edges = edge_count (length fs) in
     when eqb edges 0 then [] else boxes_of (samples_of fs) (halves_of edges) 0
 
--- with 0 the boxes followed by the old floats, and with any other number the old floats
+-- the boxes followed by the old floats, and where something is refused the old floats
 unfoldable pub buffer_after : List Float → List Float → List Float
 buffer_after xs fs =
-    beside (pages_number (length fs) (length xs)) (trace_boxes fs ++ drop (length (trace_boxes fs)) xs) xs
+    value_or xs (pages_refusal (length fs) (length xs) then Ok (trace_boxes fs ++ drop (length (trace_boxes fs)) xs))
 
 -- ---- `first_kept`
 
 -- of no edge, none and no box
-unfoldable pub search_all : List Float → Rect → List Float → KeptAnswer
+unfoldable pub search_all : List Float → Rect → List Float → Found
 search_all fs w bs =
     let edges = edge_count (length fs) in
-    when eqb edges 0 then none missed 0 else search bs w (samples_of fs) (halves_of edges) 0 0
+    when eqb edges 0 then none 0 else search bs w (samples_of fs) (halves_of edges) 0 0
 
-unfoldable pub kept_answer : List Float → Rect → List Float → KeptAnswer
-kept_answer fs w bs =
-    let number = kept_number (length fs) w (length bs) in
-    beside number (search_all fs w bs) (none number 0)
+abbrev pub kept_answer : List Float → Rect → List Float → Result Found Refusal
+kept_answer fs w bs = kept_refusal (length fs) w (length bs) then Ok (search_all fs w bs)

@@ -1,25 +1,25 @@
 -- What is promised of the boxes and of the search, over what the entries answer. Statements only; proofs/Promises.antt has the proofs.
-use Rattle.std.specs.Prelude.{ℕ, suc, ◌+◌, ◌-◌, ◌*◌, ◌/◌, ◌≤◌, ◌<◌, max, ◌≡◌, ◌↔◌, ◌⊎◌, true, false, List, [], ◌∷◌, Float, length, get_or, drop}
+use Rattle.std.specs.Prelude.{ℕ, suc, ◌+◌, ◌-◌, ◌*◌, ◌/◌, ◌≤◌, ◌<◌, max, ◌≡◌, ◌↔◌, ◌⊎◌, true, false, List, [], ◌∷◌, Float, length, get_or, drop, Option, None, Some, Ok}
 use Rattle.std.specs.Float.{nan}
 use Rattle.float.specs.Choice.{when◌then◌else◌}
 use Rattle.float.specs.Float.{zero_f, one_f}
-use Rattle.answer.specs.Answer.{done, missed}
+use Rattle.answer.specs.Refusal.{done, value_or}
 use Rattle.plane.specs.Rect.{empty_rect, box_of, contains_rect, intersects_rect}
 use Rattle.plane.specs.Within.{InRect}
 use Rattle.plane.specs.declared.point.Point.{Point}
 use Rattle.plane.specs.declared.rect.Rect.{Rect}
 use Rattle.record.specs.Record.{record_at}
 use Rattle.clip.specs.Refuse.{point_fine, window_fine}
-use Rattle.clip.specs.declared.Clipped.{Clipped}
-use Rattle.trace.specs.Trace.{samples_of, trace_cuts}
+use Rattle.trace.specs.Trace.{Clipped, samples_of, trace_cuts}
 use Rattle.trace.specs.Records.{is_kept}
 use Rattle.trace.specs.Answers as trace
+use Rattle.trace.specs.declared.Counts.{Counts}
 use Rattle.trace.specs.Promises.{sample_at}
 use Rattle.pages.specs.Halves.{Halves, single, halved, edges_in, halves_of}
 use Rattle.pages.specs.Boxes.{live_edge, five_floats, extent_of}
 use Rattle.pages.specs.Search.{box_at, opens, kept_at, none}
-use Rattle.pages.specs.Answers.{edge_count, pages_number, kept_number, pages_answer, buffer_after, kept_answer}
-use Rattle.pages.specs.declared.KeptAnswer.{KeptAnswer}
+use Rattle.pages.specs.Answers.{edge_count, pages_refusal, kept_refusal, pages_answer, buffer_after, kept_answer}
+use Rattle.pages.specs.declared.Found.{Found}
 
 -- ---- the boxes
 
@@ -58,11 +58,11 @@ pub record OwnBox (bs : List Float) (ps : List Point) (n i k : ℕ) : Type 0 whe
 -- what `build_pages` leaves in the buffer xs
 pub record Built (xs fs : List Float) : Type 0 where
   pub as_long : length (buffer_after xs fs) ≡ length xs
-  -- past the floats that it says were written all stay: so beside a refusal every one
-  pub rest_stays : (i : ℕ) → (pages_answer (length fs) (length xs)).floats ≤ i → drop i (buffer_after xs fs) ≡ drop i xs
-  -- beside 0, every box of the trace's, and that it contains those below it
-  pub own : pages_number (length fs) (length xs) ≡ done → (n i k : ℕ) → Below (edge_count (length fs)) 0 0 n i k → 1 ≤ n → OwnBox (buffer_after xs fs) (samples_of fs) n i k
-  pub holds : pages_number (length fs) (length xs) ≡ done → (n i k m j l : ℕ) → Below (edge_count (length fs)) 0 0 n i k → 1 ≤ n → Below n i k m j l
+  -- past the floats that it says were written all stay; where something is refused, every one
+  pub rest_stays : (i : ℕ) → value_or 0 (pages_answer (length fs) (length xs)) ≤ i → drop i (buffer_after xs fs) ≡ drop i xs
+  -- where nothing is, every box of the trace's, and that it contains those below it
+  pub own : pages_refusal (length fs) (length xs) ≡ done → (n i k : ℕ) → Below (edge_count (length fs)) 0 0 n i k → 1 ≤ n → OwnBox (buffer_after xs fs) (samples_of fs) n i k
+  pub holds : pages_refusal (length fs) (length xs) ≡ done → (n i k m j l : ℕ) → Below (edge_count (length fs)) 0 0 n i k → 1 ≤ n → Below n i k m j l
       → contains_rect (box_at (buffer_after xs fs) i) (box_at (buffer_after xs fs) j) ≡ true
 
 -- the same sample, or both dead
@@ -71,20 +71,19 @@ SameOrDead p q = (p ≡ q) ⊎ ((point_fine p ≡ false) × (point_fine q ≡ fa
 
 -- ---- the search
 
--- a full scan of a trace's cuts, numbered from k on: the first that is kept beside 0, or 1
-unfoldable pub first_kept : ℕ → List Clipped → ℕ × ℕ
-first_kept k [] = (missed, 0)
-first_kept k (c ∷ cs) = when is_kept c then (done, k) else first_kept (suc k) cs
+-- a full scan of a trace's cuts, numbered from k on: the first that is kept
+unfoldable pub first_kept : ℕ → List Clipped → Option ℕ
+first_kept k [] = None
+first_kept k (c ∷ cs) = when is_kept c then Some k else first_kept (suc k) cs
 
--- the answer r beside what `cut_trace_with_touches` answers and leaves in a buffer ys that it fits in
-pub record Scanned (fs : List Float) (w : Rect) (whose : ℕ) (ys : List ℕ) (r : KeptAnswer) : Type 0 where
-  -- 1 exactly when it keeps no edge, and else 0
-  pub none_kept : r.number ≡ missed ↔ ((trace.answer_of true fs w (length ys)).kept ≡ 0)
-  pub or_found : (r.number ≡ missed → ⊥) → r.number ≡ done
-  -- then the edge is one of the trace, and its record says kept; no record before it does
-  pub there : r.number ≡ done → r.edge < edge_count (length fs)
-  pub kept : r.number ≡ done → get_or (record_at r.edge (trace.buffer_after true ys fs w whose)) 0 0 ≡ done
-  pub lowest : r.number ≡ done → (j : ℕ) → j < r.edge → get_or (record_at j (trace.buffer_after true ys fs w whose)) 0 0 ≡ done → ⊥
+-- the edge found, beside the counts n that `cut_trace_with_touches` answers and what it leaves in a buffer ys that it fits in
+pub record Scanned (fs : List Float) (w : Rect) (whose : ℕ) (ys : List ℕ) (n : Counts) (found : Option ℕ) : Type 0 where
+  -- none exactly when it keeps no edge
+  pub none_kept : found ≡ None ↔ (n.kept ≡ 0)
+  -- one that is found is one of the trace, and its record says kept; no record before it does
+  pub there : (k : ℕ) → found ≡ Some k → k < edge_count (length fs)
+  pub kept : (k : ℕ) → found ≡ Some k → get_or (record_at k (trace.buffer_after true ys fs w whose)) 0 0 ≡ 0
+  pub lowest : (k : ℕ) → found ≡ Some k → (j : ℕ) → j < k → get_or (record_at j (trace.buffer_after true ys fs w whose)) 0 0 ≡ 0 → ⊥
 
 pub record Promises : Type 0 where
   -- no edge is lost; more than one are two halves, of an odd number the first the longer; 13 levels hold 4,096
@@ -95,23 +94,24 @@ pub record Promises : Type 0 where
   -- another dead value in place of a dead one changes nothing: neither what is built, nor what is found
   pub dead_alike : (fs gs : List Float) → length fs ≡ length gs → ((k : ℕ) → SameOrDead (sample_at k (samples_of fs)) (sample_at k (samples_of gs)))
       → ((xs : List Float) → buffer_after xs fs ≡ buffer_after xs gs) × ((w : Rect) (bs : List Float) → kept_answer fs w bs ≡ kept_answer gs w bs)
-  -- on the buffer that this trace filled, whatever was in it, `first_kept` answers what a full scan finds, touches kept
-  pub scan : (fs xs : List Float) (w : Rect) → pages_number (length fs) (length xs) ≡ done → window_fine w ≡ true
-      → let r = kept_answer fs w (buffer_after xs fs) in (r.number, r.edge) ≡ first_kept 0 (trace_cuts true w fs)
+  -- on the buffer that this trace filled, whatever was in it, `first_kept` refuses nothing and finds what a full scan finds, touches kept
+  pub scan : (fs xs : List Float) (w : Rect) → pages_refusal (length fs) (length xs) ≡ done → window_fine w ≡ true
+      → (r : Found) × (kept_answer fs w (buffer_after xs fs) ≡ Ok r) × (r.edge ≡ first_kept 0 (trace_cuts true w fs))
   -- which is what `cut_trace_with_touches` keeps
-  pub scanned : (fs xs : List Float) (w : Rect) (whose : ℕ) (ys : List ℕ) → pages_number (length fs) (length xs) ≡ done
-      → (trace.answer_of true fs w (length ys)).number ≡ done → Scanned fs w whose ys (kept_answer fs w (buffer_after xs fs))
+  pub scanned : (fs xs : List Float) (w : Rect) (whose : ℕ) (ys : List ℕ) (n : Counts) → pages_refusal (length fs) (length xs) ≡ done
+      → trace.answer_of true fs w (length ys) ≡ Ok n
+      → (r : Found) × (kept_answer fs w (buffer_after xs fs) ≡ Ok r) × Scanned fs w whose ys n r.edge
   -- on any buffer: of m edges at most 2m - 1 boxes are opened, so none of no edge
-  pub at_most : (fs bs : List Float) (w : Rect) → (kept_answer fs w bs).opened ≤ 2 * edge_count (length fs) - 1
+  pub at_most : (fs bs : List Float) (w : Rect) (r : Found) → kept_answer fs w bs ≡ Ok r → r.opened ≤ 2 * edge_count (length fs) - 1
   -- an edge that is found is one of the trace, and kept
-  pub found_kept : (fs bs : List Float) (w : Rect) → (kept_answer fs w bs).number ≡ done
-      → ((kept_answer fs w bs).edge < edge_count (length fs)) × (kept_at w (samples_of fs) (kept_answer fs w bs).edge ≡ true)
+  pub found_kept : (fs bs : List Float) (w : Rect) (r : Found) (k : ℕ) → kept_answer fs w bs ≡ Ok r → r.edge ≡ Some k
+      → (k < edge_count (length fs)) × (kept_at w (samples_of fs) k ≡ true)
   -- one box where the outermost does not open, and no edge
-  pub outermost : (fs bs : List Float) (w : Rect) → kept_number (length fs) w (length bs) ≡ done → 0 < edge_count (length fs) → opens bs w 0 ≡ false
-      → kept_answer fs w bs ≡ none missed 1
+  pub outermost : (fs bs : List Float) (w : Rect) → kept_refusal (length fs) w (length bs) ≡ done → 0 < edge_count (length fs) → opens bs w 0 ≡ false
+      → kept_answer fs w bs ≡ Ok (none 1)
   -- on the buffer that this trace filled that is where it has no live edge, or its box misses the window
-  pub off_page : (fs xs : List Float) (w : Rect) → pages_number (length fs) (length xs) ≡ done → window_fine w ≡ true → 0 < edge_count (length fs)
+  pub off_page : (fs xs : List Float) (w : Rect) → pages_refusal (length fs) (length xs) ≡ done → window_fine w ≡ true → 0 < edge_count (length fs)
       → ((j : ℕ) → Live (samples_of fs) (edge_count (length fs)) 0 j → ⊥) ⊎ (intersects_rect (box_at (buffer_after xs fs) 0) w ≡ false)
-      → kept_answer fs w (buffer_after xs fs) ≡ none missed 1
+      → kept_answer fs w (buffer_after xs fs) ≡ Ok (none 1)
   -- a box with a NaN among its five floats does not open
   pub nan_shut : (bs : List Float) (w : Rect) (i j : ℕ) → window_fine w ≡ true → j < 5 → get_or bs (5 * i + j) nan ≡ nan → opens bs w i ≡ false

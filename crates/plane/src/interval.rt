@@ -1,86 +1,73 @@
 // Closed intervals of the line.
+#![tactic(auto, using(float::proofs::Choice::branches, float::proofs::Choice::asks), unfolding(crate::specs::Interval::is_empty, crate::specs::Interval::holds, crate::specs::Interval::contains, crate::specs::Interval::intersects, crate::specs::Interval::lesser, crate::specs::Interval::greater, crate::specs::Interval::union_of, crate::specs::Interval::intersection_of, crate::specs::Interval::between, crate::specs::Interval::end_of, crate::specs::Interval::finite_interval))]
+
 ghost use Rattle.std.specs.Prelude.{◌≡◌};
 ghost use Rattle.plane.specs.Interval.{is_empty, holds, contains, intersects, lesser, greater, union_of, intersection_of, between, end_of, finite_interval};
-ghost use Rattle.plane.specs.Answers.{interval_answer};
 ghost use Rattle.plane.specs.Entries.{is_empty_or_refusal, holds_or_refusal, contains_or_refusal, intersects_or_refusal, union_or_refusal, intersection_or_refusal, between_or_refusal};
 
-use answer::{DONE, YesNo, both, need_finite};
+use answer::{Refusal, need};
 
 #[repr(C)]
-#[derive(Clone, Copy)]
+#[derive(Clone, Copy, Debug, Default, PartialEq)]
 pub struct Interval {
     pub lo: f64,
     pub hi: f64,
 }
 
-// An interval beside 0, or 0..0 beside a refusal.
-#[repr(C)]
-#[derive(Clone, Copy)]
-pub struct IntervalAnswer {
-    pub number: u8,
-    pub interval: Interval,
-}
-
 // Whether lo > hi.
-pub fn is_empty(i: Interval) -> YesNo
+pub fn is_empty(i: Interval) -> Result<bool, Refusal>
     ensures { result ≡ is_empty_or_refusal i }
 {
-    YesNo::answer(need_finite(i.is_finite()), i.is_empty())
+    need(i.is_finite(), Refusal::NotFinite)?;
+    Ok(i.is_empty())
 }
 
 // Whether i holds the number x.
-pub fn contains(i: Interval, x: f64) -> YesNo
+pub fn contains(i: Interval, x: f64) -> Result<bool, Refusal>
     ensures { result ≡ holds_or_refusal i x }
 {
-    YesNo::answer(
-        need_finite(both(i.is_finite(), float::is_finite(x))),
-        i.contains(x),
-    )
+    need(i.is_finite() && x.is_finite(), Refusal::NotFinite)?;
+    Ok(i.contains(x))
 }
 
 // Whether j lies in i; an empty one lies in every interval.
-pub fn contains_interval(i: Interval, j: Interval) -> YesNo
+pub fn contains_interval(i: Interval, j: Interval) -> Result<bool, Refusal>
     ensures { result ≡ contains_or_refusal i j }
 {
-    YesNo::answer(
-        need_finite(both(i.is_finite(), j.is_finite())),
-        i.contains_interval(j),
-    )
+    need(i.is_finite() && j.is_finite(), Refusal::NotFinite)?;
+    Ok(i.contains_interval(j))
 }
 
 // Whether i and j share a point.
-pub fn intersects(i: Interval, j: Interval) -> YesNo
+pub fn intersects(i: Interval, j: Interval) -> Result<bool, Refusal>
     ensures { result ≡ intersects_or_refusal i j }
 {
-    YesNo::answer(
-        need_finite(both(i.is_finite(), j.is_finite())),
-        i.intersects(j),
-    )
+    need(i.is_finite() && j.is_finite(), Refusal::NotFinite)?;
+    Ok(i.intersects(j))
 }
 
 // The least interval with all of i and j; i's end where two compare equal.
-pub fn union(i: Interval, j: Interval) -> IntervalAnswer
+pub fn union(i: Interval, j: Interval) -> Result<Interval, Refusal>
     ensures { result ≡ union_or_refusal i j }
 {
-    IntervalAnswer::answer(need_finite(both(i.is_finite(), j.is_finite())), i.union(j))
+    need(i.is_finite() && j.is_finite(), Refusal::NotFinite)?;
+    Ok(i.union(j))
 }
 
 // What i and j share; i's end where two compare equal.
-pub fn intersection(i: Interval, j: Interval) -> IntervalAnswer
+pub fn intersection(i: Interval, j: Interval) -> Result<Interval, Refusal>
     ensures { result ≡ intersection_or_refusal i j }
 {
-    IntervalAnswer::answer(
-        need_finite(both(i.is_finite(), j.is_finite())),
-        i.intersection(j),
-    )
+    need(i.is_finite() && j.is_finite(), Refusal::NotFinite)?;
+    Ok(i.intersection(j))
 }
 
 // The interval of two numbers; a..a where they compare equal.
-pub fn from_point_pair(a: f64, b: f64) -> IntervalAnswer
+pub fn from_point_pair(a: f64, b: f64) -> Result<Interval, Refusal>
     ensures { result ≡ between_or_refusal a b }
 {
-    let i = Interval { lo: a, hi: b };
-    IntervalAnswer::answer(need_finite(i.is_finite()), Interval::from_point_pair(a, b))
+    need(a.is_finite() && b.is_finite(), Refusal::NotFinite)?;
+    Ok(Interval::from_point_pair(a, b))
 }
 
 // ---- what computes
@@ -161,23 +148,11 @@ impl Interval {
     pub fn is_finite(self) -> bool
         ensures { result ≡ finite_interval self }
     {
-        both(float::is_finite(self.lo), float::is_finite(self.hi))
+        self.lo.is_finite() && self.hi.is_finite()
     }
 }
 
-impl IntervalAnswer {
-    pub fn answer(number: u8, interval: Interval) -> Self
-        ensures { result ≡ interval_answer number interval }
-    {
-        if number == DONE {
-            return IntervalAnswer { number, interval };
-        }
-        IntervalAnswer {
-            number,
-            interval: Interval { lo: 0.0, hi: 0.0 },
-        }
-    }
-}
+// `f64::min` and `f64::max` leave open which of two equal zeros they give.
 
 // The lesser of the two; x where they compare equal.
 fn min(x: f64, y: f64) -> f64

@@ -1,75 +1,70 @@
 // Points of the plane.
+#![tactic(auto, using(float::proofs::Choice::branches, float::proofs::Choice::asks), unfolding(crate::specs::Point::finite_point))]
+
 ghost use Rattle.std.specs.Prelude.{◌≡◌};
 ghost use Rattle.plane.specs.Point.{sum_of, difference_of, scaled_by, ortho_of, dot_of, cross_of, finite_point};
-ghost use Rattle.plane.specs.Answers.{point_answer};
 ghost use Rattle.plane.specs.Entries.{new_or_refusal, ortho_or_refusal, dot_or_refusal, cross_or_refusal, sum_or_refusal, difference_or_refusal, scaled_or_refusal};
 
-use answer::{DONE, Real, both, need_finite};
+use answer::{Refusal, need};
+use std::ops::{Add, Mul, Sub};
 
 #[repr(C)]
-#[derive(Clone, Copy)]
+#[derive(Clone, Copy, Debug, Default, PartialEq)]
 pub struct Point {
     pub x: f64,
     pub y: f64,
 }
 
-// A point beside 0, or the origin beside a refusal.
-#[repr(C)]
-#[derive(Clone, Copy)]
-pub struct PointAnswer {
-    pub number: u8,
-    pub point: Point,
-}
-
 // The point at x, y.
-pub fn new(x: f64, y: f64) -> PointAnswer
+pub fn new(x: f64, y: f64) -> Result<Point, Refusal>
     ensures { result ≡ new_or_refusal x y }
 {
     let p = Point { x, y };
-    PointAnswer::answer(need_finite(p.is_finite()), p)
+    need(p.is_finite(), Refusal::NotFinite)?;
+    Ok(p)
 }
 
 // The point a quarter turn against the clock from p.
-pub fn ortho(p: Point) -> PointAnswer
+pub fn ortho(p: Point) -> Result<Point, Refusal>
     ensures { result ≡ ortho_or_refusal p }
 {
-    PointAnswer::answer(need_finite(p.is_finite()), p.ortho())
+    need(p.is_finite(), Refusal::NotFinite)?;
+    Ok(p.ortho())
 }
 
-pub fn dot(p: Point, q: Point) -> Real
+pub fn dot(p: Point, q: Point) -> Result<f64, Refusal>
     ensures { result ≡ dot_or_refusal p q }
 {
-    Real::answer(need_finite(both(p.is_finite(), q.is_finite())), p.dot(q))
+    need(p.is_finite() && q.is_finite(), Refusal::NotFinite)?;
+    Ok(p.dot(q))
 }
 
-pub fn cross(p: Point, q: Point) -> Real
+pub fn cross(p: Point, q: Point) -> Result<f64, Refusal>
     ensures { result ≡ cross_or_refusal p q }
 {
-    Real::answer(need_finite(both(p.is_finite(), q.is_finite())), p.cross(q))
+    need(p.is_finite() && q.is_finite(), Refusal::NotFinite)?;
+    Ok(p.cross(q))
 }
 
-pub fn sum(p: Point, q: Point) -> PointAnswer
+pub fn sum(p: Point, q: Point) -> Result<Point, Refusal>
     ensures { result ≡ sum_or_refusal p q }
 {
-    PointAnswer::answer(need_finite(both(p.is_finite(), q.is_finite())), p.sum(q))
+    need(p.is_finite() && q.is_finite(), Refusal::NotFinite)?;
+    Ok(p + q)
 }
 
-pub fn difference(p: Point, q: Point) -> PointAnswer
+pub fn difference(p: Point, q: Point) -> Result<Point, Refusal>
     ensures { result ≡ difference_or_refusal p q }
 {
-    PointAnswer::answer(
-        need_finite(both(p.is_finite(), q.is_finite())),
-        p.difference(q),
-    )
+    need(p.is_finite() && q.is_finite(), Refusal::NotFinite)?;
+    Ok(p - q)
 }
 
-pub fn scaling(p: Point, factor: f64) -> PointAnswer
+pub fn scaling(p: Point, factor: f64) -> Result<Point, Refusal>
     ensures { result ≡ scaled_or_refusal p factor }
 {
-    PointAnswer::answer(
-        need_finite(both(p.is_finite(), float::is_finite(factor))),
-        p.scaling(factor),
-    )
+    need(p.is_finite() && factor.is_finite(), Refusal::NotFinite)?;
+    Ok(p * factor)
 }
 
 // ---- what computes
@@ -96,50 +91,48 @@ impl Point {
         self.x * other.y - self.y * other.x
     }
 
-    pub fn sum(self, other: Point) -> Point
-        ensures { result ≡ sum_of self other }
-    {
-        Point {
-            x: self.x + other.x,
-            y: self.y + other.y,
-        }
-    }
-
-    pub fn difference(self, other: Point) -> Point
-        ensures { result ≡ difference_of self other }
-    {
-        Point {
-            x: self.x - other.x,
-            y: self.y - other.y,
-        }
-    }
-
-    pub fn scaling(self, factor: f64) -> Point
-        ensures { result ≡ scaled_by self factor }
-    {
-        Point {
-            x: self.x * factor,
-            y: self.y * factor,
-        }
-    }
-
     pub fn is_finite(self) -> bool
         ensures { result ≡ finite_point self }
     {
-        both(float::is_finite(self.x), float::is_finite(self.y))
+        self.x.is_finite() && self.y.is_finite()
     }
 }
 
-impl PointAnswer {
-    pub fn answer(number: u8, point: Point) -> Self
-        ensures { result ≡ point_answer number point }
-    {
-        if number == DONE {
-            return PointAnswer { number, point };
+impl Add for Point {
+    type Output = Point;
+
+    ghost add_gives = { λ p q r. r ≡ sum_of p q };
+
+    fn add(self, rhs: Point) -> Point {
+        Point {
+            x: self.x + rhs.x,
+            y: self.y + rhs.y,
         }
-        PointAnswer {
-            number,
-            point: Point { x: 0.0, y: 0.0 },
+    }
+}
+
+impl Sub for Point {
+    type Output = Point;
+
+    ghost sub_gives = { λ p q r. r ≡ difference_of p q };
+
+    fn sub(self, rhs: Point) -> Point {
+        Point {
+            x: self.x - rhs.x,
+            y: self.y - rhs.y,
+        }
+    }
+}
+
+impl Mul<f64> for Point {
+    type Output = Point;
+
+    ghost mul_gives = { λ p factor r. r ≡ scaled_by p factor };
+
+    fn mul(self, rhs: f64) -> Point {
+        Point {
+            x: self.x * rhs,
+            y: self.y * rhs,
         }
     }
 }

@@ -1,120 +1,101 @@
 // Rectangles: a closed interval on each axis.
+#![tactic(auto, using(float::proofs::Choice::branches, float::proofs::Choice::asks), unfolding(crate::specs::Rect::contains_point, crate::specs::Rect::contains_rect, crate::specs::Rect::intersects_rect, crate::specs::Rect::or_empty, crate::specs::Rect::finite_rect))]
+
 ghost use Rattle.std.specs.Prelude.{◌≡◌};
-ghost use Rattle.plane.specs.Rect.{box_of, corner_of, vertices_of, is_empty_rect, contains_point, contains_rect, intersects_rect, union_rect, or_empty, intersection_rect, finite_rect};
-ghost use Rattle.plane.specs.Answers.{rect_answer, corners_answer};
+ghost use Rattle.plane.specs.Rect.{box_of, corner_of, vertices_of, is_empty_rect, contains_point, contains_rect, intersects_rect, union_rect, intersection_rect, finite_rect};
 ghost use Rattle.plane.specs.Entries.{box_or_refusal, vertices_or_refusal, vertex_or_refusal, lo_or_refusal, hi_or_refusal, is_empty_rect_or_refusal, contains_point_or_refusal, contains_rect_or_refusal, intersects_rect_or_refusal, union_rect_or_refusal, intersection_rect_or_refusal};
 
 use crate::interval::Interval;
-use crate::point::{Point, PointAnswer};
-use answer::{DONE, YesNo, both, need_finite};
+use crate::point::Point;
+use answer::{Refusal, need};
 
 #[repr(C)]
-#[derive(Clone, Copy)]
+#[derive(Clone, Copy, Debug, Default, PartialEq)]
 pub struct Rect {
     pub x: Interval,
     pub y: Interval,
 }
 
-// A rectangle beside 0, or 0..0 on both axes beside a refusal.
-#[repr(C)]
-#[derive(Clone, Copy)]
-pub struct RectAnswer {
-    pub number: u8,
-    pub rect: Rect,
-}
-
-// Four corners beside 0, or four origins beside a refusal.
-#[repr(C)]
-#[derive(Clone, Copy)]
-pub struct Corners {
-    pub number: u8,
-    pub vertices: [Point; 4],
-}
-
 // The box of two points; a's coordinate where two compare equal.
-pub fn from_points(a: Point, b: Point) -> RectAnswer
+pub fn from_points(a: Point, b: Point) -> Result<Rect, Refusal>
     ensures { result ≡ box_or_refusal a b }
 {
-    RectAnswer::answer(
-        need_finite(both(a.is_finite(), b.is_finite())),
-        Rect::from_points(a, b),
-    )
+    need(a.is_finite() && b.is_finite(), Refusal::NotFinite)?;
+    Ok(Rect::from_points(a, b))
 }
 
 // The four corners, from the low one against the clock.
-pub fn vertices(r: Rect) -> Corners
+pub fn vertices(r: Rect) -> Result<[Point; 4], Refusal>
     ensures { result ≡ vertices_or_refusal r }
 {
-    Corners::answer(need_finite(r.is_finite()), r.vertices())
+    need(r.is_finite(), Refusal::NotFinite)?;
+    Ok(r.vertices())
 }
 
 // The corner at i along x and j along y: 0 is low, any other number high.
-pub fn vertex_ij(r: Rect, i: u64, j: u64) -> PointAnswer
+pub fn vertex_ij(r: Rect, i: u64, j: u64) -> Result<Point, Refusal>
     ensures { result ≡ vertex_or_refusal r i j }
 {
-    PointAnswer::answer(need_finite(r.is_finite()), r.vertex(i != 0, j != 0))
+    need(r.is_finite(), Refusal::NotFinite)?;
+    Ok(r.vertex(i != 0, j != 0))
 }
 
-pub fn lo(r: Rect) -> PointAnswer
+pub fn lo(r: Rect) -> Result<Point, Refusal>
     ensures { result ≡ lo_or_refusal r }
 {
-    PointAnswer::answer(need_finite(r.is_finite()), r.vertex(false, false))
+    need(r.is_finite(), Refusal::NotFinite)?;
+    Ok(r.vertex(false, false))
 }
 
-pub fn hi(r: Rect) -> PointAnswer
+pub fn hi(r: Rect) -> Result<Point, Refusal>
     ensures { result ≡ hi_or_refusal r }
 {
-    PointAnswer::answer(need_finite(r.is_finite()), r.vertex(true, true))
+    need(r.is_finite(), Refusal::NotFinite)?;
+    Ok(r.vertex(true, true))
 }
 
 // Whether x is empty; y is not asked.
-pub fn is_empty(r: Rect) -> YesNo
+pub fn is_empty(r: Rect) -> Result<bool, Refusal>
     ensures { result ≡ is_empty_rect_or_refusal r }
 {
-    YesNo::answer(need_finite(r.is_finite()), r.is_empty())
+    need(r.is_finite(), Refusal::NotFinite)?;
+    Ok(r.is_empty())
 }
 
-pub fn contains_point(r: Rect, p: Point) -> YesNo
+pub fn contains_point(r: Rect, p: Point) -> Result<bool, Refusal>
     ensures { result ≡ contains_point_or_refusal r p }
 {
-    YesNo::answer(
-        need_finite(both(r.is_finite(), p.is_finite())),
-        r.contains_point(p),
-    )
+    need(r.is_finite() && p.is_finite(), Refusal::NotFinite)?;
+    Ok(r.contains_point(p))
 }
 
-pub fn contains(r: Rect, q: Rect) -> YesNo
+pub fn contains(r: Rect, q: Rect) -> Result<bool, Refusal>
     ensures { result ≡ contains_rect_or_refusal r q }
 {
-    YesNo::answer(
-        need_finite(both(r.is_finite(), q.is_finite())),
-        r.contains(q),
-    )
+    need(r.is_finite() && q.is_finite(), Refusal::NotFinite)?;
+    Ok(r.contains(q))
 }
 
-pub fn intersects(r: Rect, q: Rect) -> YesNo
+pub fn intersects(r: Rect, q: Rect) -> Result<bool, Refusal>
     ensures { result ≡ intersects_rect_or_refusal r q }
 {
-    YesNo::answer(
-        need_finite(both(r.is_finite(), q.is_finite())),
-        r.intersects(q),
-    )
+    need(r.is_finite() && q.is_finite(), Refusal::NotFinite)?;
+    Ok(r.intersects(q))
 }
 
-pub fn union(r: Rect, q: Rect) -> RectAnswer
+pub fn union(r: Rect, q: Rect) -> Result<Rect, Refusal>
     ensures { result ≡ union_rect_or_refusal r q }
 {
-    RectAnswer::answer(need_finite(both(r.is_finite(), q.is_finite())), r.union(q))
+    need(r.is_finite() && q.is_finite(), Refusal::NotFinite)?;
+    Ok(r.union(q))
 }
 
 // What both share; `Rect::EMPTY` where either axis comes out empty.
-pub fn intersection(r: Rect, q: Rect) -> RectAnswer
+pub fn intersection(r: Rect, q: Rect) -> Result<Rect, Refusal>
     ensures { result ≡ intersection_rect_or_refusal r q }
 {
-    RectAnswer::answer(
-        need_finite(both(r.is_finite(), q.is_finite())),
-        r.intersection(q),
-    )
+    need(r.is_finite() && q.is_finite(), Refusal::NotFinite)?;
+    Ok(r.intersection(q))
 }
 
 // ---- what computes
@@ -164,28 +145,19 @@ impl Rect {
     pub fn contains_point(self, p: Point) -> bool
         ensures { result ≡ contains_point self p }
     {
-        if !self.x.contains(p.x) {
-            return false;
-        }
-        self.y.contains(p.y)
+        self.x.contains(p.x) && self.y.contains(p.y)
     }
 
     pub fn contains(self, other: Rect) -> bool
         ensures { result ≡ contains_rect self other }
     {
-        if !self.x.contains_interval(other.x) {
-            return false;
-        }
-        self.y.contains_interval(other.y)
+        self.x.contains_interval(other.x) && self.y.contains_interval(other.y)
     }
 
     pub fn intersects(self, other: Rect) -> bool
         ensures { result ≡ intersects_rect self other }
     {
-        if !self.x.intersects(other.x) {
-            return false;
-        }
-        self.y.intersects(other.y)
+        self.x.intersects(other.x) && self.y.intersects(other.y)
     }
 
     pub fn union(self, other: Rect) -> Rect
@@ -200,56 +172,17 @@ impl Rect {
     pub fn intersection(self, other: Rect) -> Rect
         ensures { result ≡ intersection_rect self other }
     {
-        or_empty(self.x.intersection(other.x), self.y.intersection(other.y))
+        let x = self.x.intersection(other.x);
+        let y = self.y.intersection(other.y);
+        if x.is_empty() || y.is_empty() {
+            return Rect::EMPTY;
+        }
+        Rect { x, y }
     }
 
     pub fn is_finite(self) -> bool
         ensures { result ≡ finite_rect self }
     {
-        both(self.x.is_finite(), self.y.is_finite())
+        self.x.is_finite() && self.y.is_finite()
     }
-}
-
-impl RectAnswer {
-    pub fn answer(number: u8, rect: Rect) -> Self
-        ensures { result ≡ rect_answer number rect }
-    {
-        if number == DONE {
-            return RectAnswer { number, rect };
-        }
-        RectAnswer {
-            number,
-            rect: Rect {
-                x: Interval { lo: 0.0, hi: 0.0 },
-                y: Interval { lo: 0.0, hi: 0.0 },
-            },
-        }
-    }
-}
-
-impl Corners {
-    pub fn answer(number: u8, vertices: [Point; 4]) -> Self
-        ensures { result ≡ corners_answer number vertices }
-    {
-        if number == DONE {
-            return Corners { number, vertices };
-        }
-        Corners {
-            number,
-            vertices: [Point { x: 0.0, y: 0.0 }; 4],
-        }
-    }
-}
-
-// The rectangle of the two axes, or the empty one where either is empty.
-fn or_empty(x: Interval, y: Interval) -> Rect
-    ensures { result ≡ or_empty x y }
-{
-    if x.is_empty() {
-        return Rect::EMPTY;
-    }
-    if y.is_empty() {
-        return Rect::EMPTY;
-    }
-    Rect { x, y }
 }

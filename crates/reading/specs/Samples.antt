@@ -3,13 +3,24 @@ use Rattle.std.specs.Prelude.{ℕ, zero, suc, ◌+◌, ◌*◌, ◌/◌, List, [
 use Rattle.std.specs.Float.{binary64}
 use Rattle.std.specs.Float.Ieee.{of_bits}
 use Rattle.buffer.specs.Bytes.{word_at}
+use Rattle.plane.specs.Point.{at}
 use Rattle.plane.specs.Interval.{from◌to◌}
 use Rattle.plane.specs.Rect.{◌by◌}
+use Rattle.plane.specs.declared.point.Point.{Point}
 use Rattle.plane.specs.declared.rect.Rect.{Rect}
 
 abbrev pub float_at : List ℕ → ℕ → Float
 float_at s p = of_bits binary64 (word_at s p)
 
+-- x, then y
+abbrev pub point_at : List ℕ → ℕ → Point
+point_at s p = at (float_at s p) (float_at s (p + 8))
+
+-- the low corner, then the high one
+abbrev pub window_at : List ℕ → ℕ → Rect
+window_at s p = (from float_at s p to float_at s (p + 16)) by (from float_at s (p + 8) to float_at s (p + 24))
+
+-- at the front
 abbrev pub window_of : List ℕ → Rect
 window_of s = (from float_at s 0 to float_at s 16) by (from float_at s 8 to float_at s 24)
 

@@ -2,15 +2,12 @@
 use Prim.Native.Nat.{ℕ, ◌*◌, ◌^◌, ◌≤◌, ◌<◌}
 use native.Mathlib.Omega.{arith}
 use mathlib.Core.Path.{◌≡◌, refl, sym, ap, ◌∙◌}
-use mathlib.Core.Bool.{Bool, true, false}
 use mathlib.Core.List.{List, [], ◌∷◌, ◌++◌}
-use lib.Dec.{eqb}
 use lib.ListN.{length, take, drop, length-append, length-drop}
 use lib.Seq.{drop_at}
-use borrow.Author.Tests.{eqb-true}
-use Rattle.float.specs.Choice.{when◌then◌else◌}
-use Rattle.float.proofs.Choice.{cases}
-use Rattle.answer.specs.Answer.{beside}
+use Rattle.std.specs.Prelude.{Result, Ok, Err}
+use Rattle.answer.specs.Refusal.{value_or, done, ◌then◌}
+use Rattle.answer.specs.declared.Refusal.{Refusal}
 use Rattle.buffer.specs.Bytes.{word, bytes_of, followed_by}
 use Rattle.record.specs.Record.{head_bytes, Ends, record_bytes, joined, record_at, whose_in}
 use Rattle.record.specs.Numbered.{unnumbered, Numbered}
@@ -72,37 +69,30 @@ module _ {A : Type 0} (first : A → ℕ) (ends : A → Ends) where
       after : (whose : ℕ) → drop (length xs * 40) (joined (of whose) xs ++ rest whose) ≡ rest whose
       after whose = drop_at (joined (of whose) xs) (rest whose) (length xs * 40) (length_joined (of whose) (forty whose) xs)
 
-  -- ---- what a call that gave the number n leaves of the bytes old
-  module _ (n : ℕ) (xs : List A) (old : List ℕ) where
-    abbrev left : ℕ → List ℕ
-    left whose = beside n (followed_by (joined (of whose) xs) old) old
+  -- ---- what a call leaves of the bytes old, by what it refuses, if anything
+  abbrev left : Result (Unit {0}) Refusal → List A → List ℕ → ℕ → List ℕ
+  left r xs old whose = value_or old (r then Ok (followed_by (joined (of whose) xs) old))
 
-    pub numbered : Numbered left (beside n (length xs) 0)
-    unfolding beside when◌then◌else◌
-    numbered = go (eqb n 0)
-      where
-        go : (t : Bool) → Numbered (λ whose. when t then followed_by (joined (of whose) xs) old else old) (when t then length xs else 0)
-        go true = in_front xs (λ whose. drop (length (joined (of whose) xs)) old) (λ v w. rw (length_joined (of v) (forty v) xs, length_joined (of w) (forty w) xs))
-        go false =
-            record {
-              says = λ whose k b h. absurd (omega arith);
-              zeros = λ whose k h. absurd (omega arith);
-              same_first = λ v w k h. absurd (omega arith);
-              same_floats = λ v w k h. absurd (omega arith);
-              same_rest = λ v w. refl;
-            }
+  pub numbered : (r : Result (Unit {0}) Refusal) (xs : List A) (old : List ℕ) → Numbered (left r xs old) (value_or 0 (r then Ok (length xs)))
+  numbered (Ok x) xs old = in_front xs (λ whose. drop (length (joined (of whose) xs)) old) (λ v w. rw (length_joined (of v) (forty v) xs, length_joined (of w) (forty w) xs))
+  numbered (Err e) xs old =
+      record {
+        says = λ whose k b h. absurd (omega arith);
+        zeros = λ whose k h. absurd (omega arith);
+        same_first = λ v w k h. absurd (omega arith);
+        same_floats = λ v w k h. absurd (omega arith);
+        same_rest = λ v w. refl;
+      }
 
-    pub of_none : left 0 ≡ beside n (followed_by (joined (λ x. unnumbered (first x) (ends x)) xs) old) old
-    of_none = ap (λ (bs : List ℕ). beside n (followed_by bs old) old) (joined_same (of 0) (λ x. unnumbered (first x) (ends x)) (λ x. none_is (first x) (ends x)) xs)
+  pub of_none : (r : Result (Unit {0}) Refusal) (xs : List A) (old : List ℕ)
+      → left r xs old 0 ≡ value_or old (r then Ok (followed_by (joined (λ x. unnumbered (first x) (ends x)) xs) old))
+  of_none (Ok x) xs old = ap (λ (bs : List ℕ). followed_by bs old) (joined_same (of 0) (λ x. unnumbered (first x) (ends x)) (λ x. none_is (first x) (ends x)) xs)
+  of_none (Err e) xs old = refl
 
-    -- as many bytes as before, where the records are known to fit
-    pub as_long : (n ≡ 0 → length xs * 40 ≤ length old) → (whose : ℕ) → length (left whose) ≡ length old
-    unfolding beside
-    as_long fits whose =
-        cases (λ (bs : List ℕ). length bs ≡ length old) (eqb n 0) (followed_by (joined (of whose) xs) old) old
-        (λ e. front (fits (eqb-true _ _ e))) (λ e. refl)
-      where
-        front : length xs * 40 ≤ length old → length (followed_by (joined (of whose) xs) old) ≡ length old
-        front h =
-            let bs = joined (of whose) xs in
-            omega (arith, length-append bs (drop (length bs) old), length-drop (length bs) old, length_joined (of whose) (forty whose) xs)
+  -- as many bytes as before, where the records are known to fit
+  pub as_long : (r : Result (Unit {0}) Refusal) (xs : List A) (old : List ℕ) → (r ≡ done → length xs * 40 ≤ length old) → (whose : ℕ) → length (left r xs old whose) ≡ length old
+  as_long (Ok tt) xs old fits whose =
+      let h : length xs * 40 ≤ length old = fits refl in
+      let bs = joined (of whose) xs in
+      omega (arith, length-append bs (drop (length bs) old), length-drop (length bs) old, length_joined (of whose) (forty whose) xs)
+  as_long (Err e) xs old fits whose = refl

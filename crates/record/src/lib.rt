@@ -13,23 +13,28 @@ pub const LENGTH: usize = 40;
 pub fn head(first: u8, whose: u32) -> u64
     ensures { result ≡ head_of first whose }
 {
-    (whose as u64) * 0x1_0000_0000 + (first as u64)
+    u64::from(whose) * 0x1_0000_0000 + u64::from(first)
 }
 
-// A record with this head and these bits for its floats, at a place where all of it fits; else nothing
-// is written.
-pub fn put_record(out: &mut [u8], at: usize, head: u64, au: u64, av: u64, bu: u64, bv: u64)
-    ensures { out.new ≡ placed out.old at (with_head head au av bu bv) }
+// What a record holds: its head, and the bits of its floats.
+#[derive(Clone, Copy)]
+pub struct Record {
+    pub head: u64,
+    pub au: u64,
+    pub av: u64,
+    pub bu: u64,
+    pub bv: u64,
+}
+
+// The record, at a place where all of it fits; else nothing is written.
+pub fn put_record(out: &mut [u8], at: usize, r: Record)
+    ensures { out.new ≡ placed out.old at (with_head r.head r.au r.av r.bu r.bv) }
 {
-    if out.len() < LENGTH {
-        return;
-    }
-    if out.len() - LENGTH < at {
-        return;
-    }
-    buffer::put_word(out, at, head);
-    buffer::put_word(out, at + 8, au);
-    buffer::put_word(out, at + 16, av);
-    buffer::put_word(out, at + 24, bu);
-    buffer::put_word(out, at + 32, bv);
+    let mut bytes = [0; LENGTH];
+    buffer::put_word(&mut bytes, 0, r.head);
+    buffer::put_word(&mut bytes, 8, r.au);
+    buffer::put_word(&mut bytes, 16, r.av);
+    buffer::put_word(&mut bytes, 24, r.bu);
+    buffer::put_word(&mut bytes, 32, r.bv);
+    buffer::place(out, at, &bytes);
 }

@@ -12,15 +12,19 @@ use lib.Seq.{take_all, length-take-le}
 use borrow.Author.Tests.{lt-leb}
 use Rattle.float.specs.Choice.{when◌then◌else◌, ◌and◌}
 use Rattle.float.proofs.Whole.{le_or_lt}
-use Rattle.answer.specs.Answer.{beside}
+use Rattle.std.proofs.Common.{Result, Err}
+use Rattle.std.specs.Result.{result_unwrap_or}
+use Rattle.answer.specs.Refusal.{number}
+use Rattle.answer.specs.declared.Refusal.{Refusal}
+use Rattle.answer.specs.declared.Refusal.TheVariants.{BadTrace}
 use Rattle.buffer.specs.Text.{line_ends}
 use Rattle.buffer.proofs.Ends.{ends_append, no_end}
 use Rattle.plane.specs.declared.rect.Rect.{Rect}
 use Rattle.trace.specs.Refuse.{trace_fine, in_order}
 use Rattle.reading.specs.Samples.{floats_in, floats_of}
 use Rattle.reading.proofs.Floats.{length_floats}
-use Rattle.stretch.specs.Answers.{stretch_of}
-use Rattle.stretch.specs.declared.StretchAnswer.{StretchAnswer}
+use Rattle.stretch.specs.Answers.{stretch_of, no_stretch}
+use Rattle.stretch.specs.declared.Stretch.{Stretch}
 use Rattle.run_stretch.specs.Line.{digits_in, decimal, ended, line_of}
 use Rattle.run_stretch.specs.Promises.{Promises}
 use Rattle.run_stretch.proofs.Decimal.{in_one, in_more}
@@ -34,11 +38,8 @@ not_second false q e = refl
 too_many : (floats : ℕ) → 8194 ≤ floats → trace_fine floats ≡ false
 too_many floats h = not_second _ _ (lt-leb (floats / 2) 4096 (omega arith))
 
-refused : StretchAnswer
-refused = record { number = 10; first = 0; count = 0 }
-
-long_refused : (fs : List Float) (w : Rect) → 8194 ≤ length fs → stretch_of fs w ≡ refused
-unfolding stretch_of in_order beside when◌then◌else◌ refused
+long_refused : (fs : List Float) (w : Rect) → 8194 ≤ length fs → stretch_of fs w ≡ Err BadTrace
+unfolding in_order
 long_refused fs w h = rw (too_many (length fs) h)
 
 rest_unread : (s : List ℕ) (w : Rect) → stretch_of (floats_of (take 65552 s)) w ≡ stretch_of (floats_of s) w
@@ -73,16 +74,17 @@ ends_ended : (n b : ℕ) → line_ends (ended n b) ≡ line_ends (b ∷ [])
 unfolding ended decimal
 ends_ended n b = ends_append (digits_in (suc n) n) (b ∷ []) ∙ ap (◌+ line_ends (b ∷ [])) (no_ends_lem (suc n) n) ∙ zero-add _
 
-one_line : (a : StretchAnswer) → line_ends (line_of a) ≡ 1
+one_line : (a : Result Stretch Refusal) → line_ends (line_of a) ≡ 1
 unfolding line_of line_ends when◌then◌else◌
 one_line a =
+    let run = result_unwrap_or a no_stretch in
     omega (
       arith,
-      ends_append (ended a.number 32) (ended a.first 32 ++ ended a.count 10),
-      ends_append (ended a.first 32) (ended a.count 10),
-      ends_ended a.number 32,
-      ends_ended a.first 32,
-      ends_ended a.count 10,
+      ends_append (ended (number a) 32) (ended run.first 32 ++ ended run.count 10),
+      ends_append (ended run.first 32) (ended run.count 10),
+      ends_ended (number a) 32,
+      ends_ended run.first 32,
+      ends_ended run.count 10,
     )
 
 pub promises : Promises

@@ -6,7 +6,12 @@ use mathlib.Core.List.{List, [], ◌∷◌, ◌++◌}
 use lib.ListN.{length, set, length-append}
 use Rattle.buffer.specs.Bytes.{stored, followed_by}
 use Rattle.buffer.proofs.Stored.{stored_join, stored_front, length_stored}
-use Rattle.stretch.specs.declared.StretchAnswer.{StretchAnswer}
+use Rattle.std.proofs.Common.{Result}
+use Rattle.std.specs.Result.{result_unwrap_or}
+use Rattle.answer.specs.Refusal.{number}
+use Rattle.answer.specs.declared.Refusal.{Refusal}
+use Rattle.stretch.specs.Answers.{no_stretch}
+use Rattle.stretch.specs.declared.Stretch.{Stretch}
 use Rattle.run_stretch.specs.Line.{decimal, ended, line_of}
 use Rattle.run_stretch.proofs.Decimal.{one_digit, more_digits}
 
@@ -32,15 +37,16 @@ module _ (xs : List ℕ) (to n : ℕ) where
   ended_stored ys at b = then_byte xs ys (decimal n) (decimal n ++ (b ∷ [])) to at b refl
 
 -- three of them, from the first byte on
-pub line_stored : (a : StretchAnswer) (xs ys zs us : List ℕ) (p q r : ℕ) → 63 ≤ length xs
-    → Stored xs 0 (ended a.number 32) ys p → Stored ys p (ended a.first 32) zs q → Stored zs q (ended a.count 10) us r → r ≤ 63
+pub line_stored : (a : Result Stretch Refusal) (n : ℕ) (run : Stretch) (xs ys zs us : List ℕ) (p q r : ℕ) → n ≡ number a → run ≡ result_unwrap_or a no_stretch → 63 ≤ length xs
+    → Stored xs 0 (ended n 32) ys p → Stored ys p (ended run.first 32) zs q → Stored zs q (ended run.count 10) us r → r ≤ 63
     → (r ≡ length (line_of a)) × ((us ≡ followed_by (line_of a) xs) × (r ≤ length us))
 unfolding line_of
-line_stored a xs ys zs us p q r h (ep, ey) (eq, ez) (er, eu) m =
-    let n = ended a.number 32 in
-    let f = ended a.first 32 in
-    let c = ended a.count 10 in
-    let l : r ≡ length (n ++ (f ++ c)) = simp length-append (omega arith) in
+line_stored a n run xs ys zs us p q r en erun h (ep, ey) (eq, ez) (er, eu) m =
+    let b = ended n 32 in
+    let f = ended run.first 32 in
+    let c = ended run.count 10 in
+    let line : line_of a ≡ b ++ (f ++ c) = rw (en, erun) refl in
+    let l : r ≡ length (b ++ (f ++ c)) = simp length-append (omega arith) in
     let s : us ≡ stored ys p (f ++ c) = eu ∙ rw (ez, eq) (stored_join ys p f c) in
-    let t : us ≡ stored xs 0 (n ++ (f ++ c)) = s ∙ rw (ey, ep) (stored_join xs 0 n (f ++ c)) in
-    (l, (t ∙ stored_front xs (n ++ (f ++ c)) (omega arith), omega (arith, ap length t, length_stored xs 0 (n ++ (f ++ c)))))
+    let t : us ≡ stored xs 0 (b ++ (f ++ c)) = s ∙ rw (ey, ep) (stored_join xs 0 b (f ++ c)) in
+    rw line (l, (t ∙ stored_front xs (b ++ (f ++ c)) (omega arith), omega (arith, ap length t, length_stored xs 0 (b ++ (f ++ c)))))

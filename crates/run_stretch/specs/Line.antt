@@ -1,7 +1,11 @@
 -- The line: the number, the first sample and the count of samples in decimal, single spaces between them, a line end.
-use Rattle.std.specs.Prelude.{ℕ, zero, suc, ◌+◌, ◌/◌, ◌%◌, List, [], ◌∷◌, ◌++◌, leb}
+use Rattle.std.specs.Prelude.{ℕ, zero, suc, ◌+◌, ◌/◌, ◌%◌, List, [], ◌∷◌, ◌++◌, leb, Result}
+use Rattle.std.specs.Result.{result_unwrap_or}
 use Rattle.float.specs.Choice.{when◌then◌else◌}
-use Rattle.stretch.specs.declared.StretchAnswer.{StretchAnswer}
+use Rattle.answer.specs.Refusal.{number}
+use Rattle.answer.specs.declared.Refusal.{Refusal}
+use Rattle.stretch.specs.Answers.{no_stretch}
+use Rattle.stretch.specs.declared.Stretch.{Stretch}
 
 -- the digits of n, the highest first, in k steps at the most: n itself where it is one digit, else those of a tenth of it and
 -- then its last; the digit 0 is the byte 48
@@ -17,6 +21,8 @@ decimal n = digits_in (suc n) n
 unfoldable pub ended : ℕ → ℕ → List ℕ
 ended n b = decimal n ++ (b ∷ [])
 
--- 32 is a space, 10 a line end
-unfoldable pub line_of : StretchAnswer → List ℕ
-line_of a = ended a.number 32 ++ (ended a.first 32 ++ ended a.count 10)
+-- 32 is a space, 10 a line end; zeros stand beside a refusal
+unfoldable pub line_of : Result Stretch Refusal → List ℕ
+line_of a =
+    let run = result_unwrap_or a no_stretch in
+    ended (number a) 32 ++ (ended run.first 32 ++ ended run.count 10)

@@ -1,67 +1,64 @@
--- The records that a trace has are within what was lent; a piece's own floats and its last sample.
-use Rattle.std.proofs.Common.{◌≡◌, ℕ, ◌-◌, ◌*◌, ◌/◌, ◌<◌, ◌≤◌, Bool, true, false, List, [], length, get_or, take, drop, sym, refl, ◌∙◌, subst, arith, length-drop, drop_of_length-le, take_all, leb-true}
+-- The records that a piece has are within what was lent; its first floats and its last sample.
+use Rattle.std.proofs.Common.{◌≡◌, ℕ, ◌+◌, ◌-◌, ◌*◌, ◌/◌, ◌<◌, ◌≤◌, Bool, true, false, leb, List, [], ◌∷◌, ◌++◌, length, get_or, take, set, refl, ap, ◌∙◌, arith, leb-true, Option, Some, None, Result, Ok, Err}
+use Rattle.std.specs.Result.{result_unwrap_or, ResultUnwrapsOrElse}
 use lib.Ieee.{Float, nan}
 use Rattle.float.specs.Choice.{when◌then◌else◌}
 use Rattle.float.proofs.Choice.{when_le, when_gt}
-use Rattle.answer.specs.Answer.{beside}
-use Rattle.plane.specs.Point.{at, origin}
+use Rattle.answer.specs.Refusal.{◌then◌}
+use Rattle.answer.specs.declared.Refusal.{Refusal}
+use Rattle.plane.specs.Point.{at}
+use Rattle.plane.specs.declared.point.Point.{Point}
 use Rattle.plane.specs.declared.rect.Rect.{Rect}
 use Rattle.clip.specs.Refuse.{window_fine}
-use Rattle.trace.specs.Trace.{samples_of}
+use Rattle.trace.specs.Trace.{samples_of, trace_cuts}
 use Rattle.trace.specs.Refuse.{trace_fine, room_for, in_order}
-use Rattle.trace.specs.Answers.{answer_of, buffer_after}
-use Rattle.trace.specs.declared.TraceAnswer.{TraceAnswer}
+use Rattle.trace.specs.Answers.{answer_of, no_edges, counts_of}
+use Rattle.trace.specs.declared.Counts.{Counts}
 use Rattle.trace.proofs.Cuts.{length_cuts}
-use Rattle.run_trace.specs.Samples.{own_floats, last_sample}
+use Rattle.reading.specs.Samples.{floats_in, floats_of, floats_into}
+use Rattle.reading.proofs.Floats.{put_in}
+use Rattle.run_trace.specs.Samples.{last_sample}
+use Rattle.run_trace.specs.Pieces.{carried, piece_floats}
 
 -- edges are counted only where they fit
-counted : (edges bytes : ℕ) (p q r : Bool) → room_for edges bytes ≡ r → beside (in_order p q r) edges 0 * 40 ≤ bytes
-unfolding beside in_order when◌then◌else◌
-counted edges bytes true true true h = let k : edges ≤ bytes / 40 = leb-true _ _ h in omega arith
-counted edges bytes true true false h = omega arith
-counted edges bytes true false r h = omega arith
-counted edges bytes false q r h = omega arith
+counted : (c : Counts) (bytes : ℕ) (p q r : Bool) → room_for c.edges bytes ≡ r → (result_unwrap_or (in_order p q r then Ok c) no_edges).edges * 40 ≤ bytes
+unfolding in_order
+counted c bytes true true true h = let k : c.edges ≤ bytes / 40 = leb-true _ _ h in omega arith
+counted c bytes true true false h = omega arith
+counted c bytes true false r h = omega arith
+counted c bytes false q r h = omega arith
 
-pub within : (touches : Bool) (fs : List Float) (w : Rect) (bytes : ℕ) (a : TraceAnswer) → a ≡ answer_of touches fs w bytes → a.edges * 40 ≤ bytes
+pub within : (touches : Bool) (fs : List Float) (w : Rect) (bytes : ℕ) (a : Result Counts Refusal) → a ≡ answer_of touches fs w bytes
+    → (result_unwrap_or a no_edges).edges * 40 ≤ bytes
 within touches fs w bytes a e =
-    rw (e, length_cuts touches w (samples_of fs)) (counted (length (samples_of fs) - 1) bytes (trace_fine (length fs)) (window_fine w) _ refl)
+    let n = length_cuts touches w (samples_of fs) in
+    rw e (counted (counts_of (trace_cuts touches w fs)) bytes (trace_fine (length fs)) (window_fine w) (room_for (length (samples_of fs) - 1) bytes) (ap (λ (k : ℕ). room_for k bytes) n))
 
--- ---- a piece's own floats
-module _ (carried : Bool) (fs : List Float) where
-  pub own_all : carried ≡ true → fs ≡ own_floats carried fs
-  unfolding own_floats when◌then◌else◌
-  own_all e = rw e
+-- the counts of an answer, or the zeros that std's default is
+pub or_zeros : (a : Result Counts Refusal) (r : Counts)
+    → ResultUnwrapsOrElse a (λ c. (c.kept ≡ 0) × ((c.missed ≡ 0) × ((c.refused ≡ 0) × (c.edges ≡ 0)))) r → r ≡ result_unwrap_or a no_edges
+or_zeros (Ok c) r h = h
+or_zeros (Err e) r (k, (m, (f, n))) = λ i. record { kept = k i; missed = m i; refused = f i; edges = n i }
 
-  after_two : carried ≡ false → drop 2 fs ≡ own_floats carried fs
-  unfolding own_floats when◌then◌else◌
-  after_two e = rw e
+-- ---- the floats
+pub take_two : (zs : List Float) (x y : Float) → 2 ≤ length zs → take 2 (set (set zs 0 x) 1 y) ≡ x ∷ y ∷ []
+take_two [] x y h = absurd (omega arith)
+take_two (a ∷ []) x y h = absurd (omega arith)
+take_two (a ∷ b ∷ zs) x y h = refl
 
-  pub own_rest : carried ≡ false → take (length fs - 2) (drop 2 fs) ≡ own_floats carried fs
-  own_rest e =
-      let l : length (drop 2 fs) ≤ length fs - 2 = omega (arith, length-drop 2 fs) in
-      take_all _ (drop 2 fs) l ∙ after_two e
-
-  pub own_none : carried ≡ false → length fs < 2 → [] ≡ own_floats carried fs
-  own_none e h = let l : length fs ≤ 2 = omega arith in sym (drop_of_length-le fs l) ∙ after_two e
-
-abbrev pub CutOf : Bool → Rect → ℕ → List ℕ → List ℕ → TraceAnswer → List Float → Type 0
-CutOf touches w whose xs ys a gs = (a ≡ answer_of touches gs w (length xs)) × ((ys ≡ buffer_after touches xs gs w whose) × (a.edges * 40 ≤ length xs))
-
--- by the entry that the flag asks for
-pub cut_with : (touches t : Bool) (w : Rect) (whose : ℕ) (xs ys : List ℕ) (a : TraceAnswer) (gs : List Float) → touches ≡ t
-    → (a ≡ answer_of t gs w (length xs)) × (ys ≡ buffer_after t xs gs w whose) → CutOf touches w whose xs ys a gs
-cut_with touches t w whose xs ys a gs e (p, q) = subst (λ (u : Bool). CutOf u w whose xs ys a gs) (sym e) (p, (q, within t gs w (length xs) a p))
-
--- what holds of the floats that were cut holds of the piece
-pub of_piece : (touches carried : Bool) (fs gs : List Float) (w : Rect) (whose : ℕ) (xs ys : List ℕ) (a : TraceAnswer) → gs ≡ own_floats carried fs
-    → CutOf touches w whose xs ys a gs → CutOf touches w whose xs ys a (own_floats carried fs)
-of_piece touches carried fs gs w whose xs ys a e = subst (CutOf touches w whose xs ys a) e
+-- the sample that is carried over, and then those of the bytes
+pub filled : (before : Option Point) (s : List ℕ) (xs out : List Float) (from n : ℕ) → take from xs ≡ carried before → from + floats_in s ≤ length xs
+    → n ≡ (when leb (from + floats_in s) (length xs) then from + floats_in s else 0)
+    → out ≡ (when leb (from + floats_in s) (length xs) then floats_into xs from (floats_of s) else xs)
+    → take n out ≡ piece_floats before s
+unfolding piece_floats
+filled before s xs out from n e h count floats = put_in xs out s from n h count floats ∙ ap (◌++ floats_of s) e
 
 -- ---- the last sample
-pub last_none : (fs : List Float) → length fs < 2 → origin ≡ last_sample fs
+pub last_none : (fs : List Float) → length fs < 2 → None ≡ last_sample fs
 unfolding last_sample
 last_none fs h = when_gt _ _ _ _ _ h refl
 
-pub last_is : (fs : List Float) → 2 ≤ length fs → at (get_or fs (length fs - 2) nan) (get_or fs (length fs - 1) nan) ≡ last_sample fs
+pub last_is : (fs : List Float) → 2 ≤ length fs → Some (at (get_or fs (length fs - 2) nan) (get_or fs (length fs - 1) nan)) ≡ last_sample fs
 unfolding last_sample
 last_is fs h = when_le _ _ _ _ _ h refl

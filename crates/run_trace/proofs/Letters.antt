@@ -1,51 +1,26 @@
 -- Two words compared byte by byte; and what the words ask for, whichever is first.
-use Rattle.std.proofs.Common.{◌≡◌, ℕ, ◌+◌, ◌<◌, ◌≤◌, Bool, true, false, eqb, ◌↔◌, List, [], ◌∷◌, length, get_or, drop, sym, refl, ◌∙◌, true≢false, add-one, arith, drop_of_length-le, drop-cons, eq-eqb, ne_eqb, eqb-true}
+use Rattle.std.proofs.Common.{◌≡◌, ℕ, Bool, true, false, eqb, ◌↔◌, List, [], ◌∷◌, sym, refl, ap, ◌∙◌, true≢false, arith, eqb-true}
+use Rattle.std.specs.Prelude.{◌&&◌}
+use Rattle.std.specs.Cmp.Lexicographic.{pointwise}
 use Rattle.float.specs.Choice.{when◌then◌else◌, ◌and◌}
-use Rattle.float.proofs.Choice.{then_is, else_is, split, and_parts}
+use Rattle.float.proofs.Choice.{then_is, split, and_parts}
 use Rattle.run_trace.specs.declared.words.Word.{Word}
 use Rattle.run_trace.specs.declared.words.Word.TheVariants.{Number, Touches, Other}
-use Rattle.run_trace.specs.Words.{number_in, same, touches_letters, word_of, number_and, touches_and, of_two, asked}
+use Rattle.run_trace.specs.Words.{number_in, same, touches_letters, word_of, of_two, asked}
 
 -- ---- byte by byte
-and_no : (p : Bool) {q : Bool} → false ≡ q → false ≡ (p and q)
+and_is : (p q : Bool) → (p && q) ≡ (p and q)
 unfolding when◌then◌else◌
-and_no true e = e
-and_no false e = refl
+and_is true q = refl
+and_is false q = refl
 
-pub other_length : (s t : List ℕ) → (length s ≡ length t → ⊥) → false ≡ same s t
+-- as std has it
+pub same_is : (s t : List ℕ) → pointwise eqb s t ≡ same s t
 unfolding same
-other_length [] [] h = absurd (h refl)
-other_length [] (y ∷ t) h = refl
-other_length (x ∷ s) [] h = refl
-other_length (x ∷ s) (y ∷ t) h = and_no (eqb x y) (other_length s t (λ e. h (omega arith)))
-
--- the first i are the same
-pub record Alike (s t : List ℕ) (i : ℕ) : Type 0 where
-  pub long : length s ≡ length t
-  pub within : i ≤ length s
-  pub left : same (drop i s) (drop i t) ≡ same s t
-
-pub begins : (s t : List ℕ) → length s ≡ length t → Alike s t 0
-begins s t l = record { long = l; within = omega arith; left = refl }
-
-module _ {s t : List ℕ} {i : ℕ} (a : Alike s t i) (h : i < length s) where
-  next : same (drop i s) (drop i t) ≡ (eqb (get_or s i 0) (get_or t i 0) and same (drop (i + 1) s) (drop (i + 1) t))
-  unfolding same
-  next =
-      let k : i < length t = omega (arith, a.long) in
-      rw (add-one i, drop-cons s i 0 h, drop-cons t i 0 k)
-
-  pub on : get_or s i 0 ≡ get_or t i 0 → Alike s t (i + 1)
-  on e = record { long = a.long; within = omega arith; left = then_is _ _ _ _ (eq-eqb _ _ e) refl ∙ sym next ∙ a.left }
-
-  pub off : (get_or s i 0 ≡ get_or t i 0 → ⊥) → false ≡ same s t
-  off e = else_is _ _ _ _ (ne_eqb _ _ e) refl ∙ sym next ∙ a.left
-
-pub ended : {s t : List ℕ} {i : ℕ} → Alike s t i → length s ≤ i → true ≡ same s t
-unfolding same
-ended {s} {t} {i} a h =
-    let k : length t ≤ i = omega (arith, a.long) in
-    (rw (drop_of_length-le s h, drop_of_length-le t k)) ∙ a.left
+same_is [] [] = refl
+same_is [] (y ∷ t) = refl
+same_is (x ∷ s) [] = refl
+same_is (x ∷ s) (y ∷ t) = and_is (eqb x y) _ ∙ ap (λ (q : Bool). eqb x y and q) (same_is s t)
 
 all_same : (s t : List ℕ) → same s t ≡ true → s ≡ t
 unfolding same
@@ -69,7 +44,7 @@ touches_word s = (λ e. split _ _ _ _ e (λ t f. all_same s touches_letters t) (
 
 -- ---- two words
 either : (v w : Word) → of_two v w ≡ of_two w v
-unfolding of_two number_and touches_and
+unfolding of_two
 either (Number n) (Number m) = refl
 either (Number n) Touches = refl
 either (Number n) Other = refl

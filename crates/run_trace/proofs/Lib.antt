@@ -1,7 +1,6 @@
 -- Laws that the proofs of this crate cite.
 pub mod Cutting
 pub mod Pieces
-pub mod Filled
 pub mod Blocks
 pub mod Promises
 pub mod Digits

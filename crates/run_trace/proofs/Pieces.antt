@@ -1,5 +1,5 @@
 -- An input cut between samples: its floats are those of its parts, and the join law does the rest.
-use Rattle.std.proofs.Common.{◌≡◌, ℕ, zero, suc, ◌+◌, ◌-◌, ◌*◌, ◌%◌, ◌≤◌, Bool, List, [], ◌∷◌, ◌++◌, length, get_or, take, drop, sym, refl, ap, ◌∙◌, subst, append_assoc, arith, length-append, length-drop, take-append-drop, drop_of_length-le, length-take-le, drop-cons}
+use Rattle.std.proofs.Common.{◌≡◌, ℕ, zero, suc, ◌+◌, ◌-◌, ◌*◌, ◌%◌, ◌≤◌, Bool, List, [], ◌∷◌, ◌++◌, length, get_or, take, drop, sym, refl, ap, ◌∙◌, subst, append_assoc, arith, length-append, length-drop, take-append-drop, drop_of_length-le, length-take-le, drop-cons, Option, Some, None}
 use lib.Ieee.{Float, nan, binary64, of_bits}
 use lib.Seq.{take-append-le, drop-append-le, drop-append-add}
 use Rattle.float.proofs.Choice.{when_le}
@@ -12,8 +12,8 @@ use Rattle.trace.specs.Promises.{Joined}
 use Rattle.trace.proofs.Joins.{joins}
 use Rattle.reading.specs.Samples.{float_at, floats_in, floats_from, floats_of}
 use Rattle.reading.proofs.Floats.{length_floats}
-use Rattle.run_trace.specs.Samples.{last_sample}
-use Rattle.run_trace.specs.Pieces.{after}
+use Rattle.run_trace.specs.Pieces.{carried, piece_floats, last_after}
+use Rattle.run_trace.specs.Promises.{piece_cuts}
 use Rattle.run_trace.proofs.Cutting.{last_is}
 
 -- ---- floats of joined bytes
@@ -72,40 +72,46 @@ floats_join s t e =
     ap (floats_from (s ++ t) 0) k ∙ floats_split (s ++ t) 0 n m ∙ cc
 
 -- ---- the last sample
-last_split : (fs : List Float) → 2 ≤ length fs → take (length fs - 2) fs ++ ((last_sample fs).x ∷ (last_sample fs).y ∷ []) ≡ fs
+abbrev last_two : List Float → Point
+last_two fs = at (get_or fs (length fs - 2) nan) (get_or fs (length fs - 1) nan)
+
+last_split : (fs : List Float) → 2 ≤ length fs → take (length fs - 2) fs ++ ((last_two fs).x ∷ (last_two fs).y ∷ []) ≡ fs
 last_split fs h =
     let n = length fs - 2 in
     let k : suc n ≡ length fs - 1 = omega arith in
     let l : length fs ≤ suc (suc n) = omega arith in
     let none : drop (suc (suc n)) fs ≡ [] = drop_of_length-le fs l in
-    let p : at (get_or fs n nan) (get_or fs (length fs - 1) nan) ≡ last_sample fs = last_is fs h in
     let a : drop n fs ≡ get_or fs n nan ∷ drop (suc n) fs = drop-cons fs n nan (omega arith) in
     let b : drop (suc n) fs ≡ get_or fs (suc n) nan ∷ drop (suc (suc n)) fs = drop-cons fs (suc n) nan (omega arith) in
-    let x : (last_sample fs).x ≡ get_or fs n nan = sym (ap (λ (q : Point). q.x) p) in
-    let y : (last_sample fs).y ≡ get_or fs (suc n) nan = sym (ap (λ (q : Point). q.y) p) ∙ ap (λ (j : ℕ). get_or fs j nan) (sym k) in
-    let c : (last_sample fs).x ∷ (last_sample fs).y ∷ [] ≡ drop n fs = cc in
+    let y : (last_two fs).y ≡ get_or fs (suc n) nan = ap (λ (j : ℕ). get_or fs j nan) (sym k) in
+    let c : (last_two fs).x ∷ (last_two fs).y ∷ [] ≡ drop n fs = cc in
     ap (take n fs ++◌) c ∙ take-append-drop n fs
 
 joins_at : (touches : Bool) (w : Rect) (fs gs : List Float) → length fs % 2 ≡ 0 → 2 ≤ length fs
-    → Joined (trace_cuts touches w (fs ++ gs)) (trace_cuts touches w fs) (trace_cuts touches w (after (last_sample fs) gs))
+    → Joined (trace_cuts touches w (fs ++ gs)) (trace_cuts touches w fs) (trace_cuts touches w ((last_two fs).x ∷ (last_two fs).y ∷ gs))
 joins_at touches w fs gs e h =
-    let p = last_sample fs in
+    let p = last_two fs in
     let front = take (length fs - 2) fs in
     let all : front ++ (p.x ∷ p.y ∷ []) ≡ fs = last_split fs h in
     let more : front ++ (p.x ∷ p.y ∷ gs) ≡ fs ++ gs = sym (append_assoc front (p.x ∷ p.y ∷ []) gs) ∙ ap (◌++ gs) all in
-    let rest = trace_cuts touches w (after p gs) in
+    let rest = trace_cuts touches w (p.x ∷ p.y ∷ gs) in
     let j = joins touches w front gs p.x p.y (omega (arith, length-take-le (length fs - 2) fs (omega arith))) in
     subst (λ (l : List Float). Joined (trace_cuts touches w l) (trace_cuts touches w fs) rest) more
     (subst (λ (l : List Float). Joined (trace_cuts touches w (front ++ (p.x ∷ p.y ∷ gs))) (trace_cuts touches w l) rest) all j)
 
-pub pieces : (touches : Bool) (w : Rect) (before : List Float) (s t : List ℕ) → length before % 2 ≡ 0 → length s % 16 ≡ 0 → 16 ≤ length s
-    → Joined (trace_cuts touches w (before ++ floats_of (s ++ t)))
-    (trace_cuts touches w (before ++ floats_of s))
-    (trace_cuts touches w (after (last_sample (before ++ floats_of s)) (floats_of t)))
-pieces touches w before s t b e h =
-    let fs = before ++ floats_of s in
-    let l = length-append before (floats_of s) in
+even : (before : Option Point) → length (carried before) % 2 ≡ 0
+even None = refl
+even (Some p) = refl
+
+pub pieces : (touches : Bool) (w : Rect) (before : Option Point) (s t : List ℕ) → length s % 16 ≡ 0 → 16 ≤ length s
+    → Joined (piece_cuts touches w before (s ++ t)) (piece_cuts touches w before s) (piece_cuts touches w (last_after before s) t)
+unfolding piece_floats
+pieces touches w before s t e h =
+    let fs = carried before ++ floats_of s in
+    let l = length-append (carried before) (floats_of s) in
     let n = length_floats s 0 (floats_in s) in
-    let all : fs ++ floats_of t ≡ before ++ floats_of (s ++ t) = append_assoc before (floats_of s) (floats_of t) ∙ ap (before ++◌) (sym (floats_join s t e)) in
-    subst (λ (gs : List Float). Joined (trace_cuts touches w gs) (trace_cuts touches w fs) (trace_cuts touches w (after (last_sample fs) (floats_of t)))) all
-    (joins_at touches w fs (floats_of t) (omega (arith, l, n)) (omega (arith, l, n)))
+    let long : 2 ≤ length fs = omega (arith, l, n) in
+    let all : fs ++ floats_of t ≡ carried before ++ floats_of (s ++ t) = append_assoc (carried before) (floats_of s) (floats_of t) ∙ ap (carried before ++◌) (sym (floats_join s t e)) in
+    let j = joins_at touches w fs (floats_of t) (omega (arith, l, n, even before)) long in
+    subst (λ (o : Option Point). Joined (trace_cuts touches w (carried before ++ floats_of (s ++ t))) (trace_cuts touches w fs) (trace_cuts touches w (carried o ++ floats_of t))) (last_is fs long)
+    (subst (λ (gs : List Float). Joined (trace_cuts touches w gs) (trace_cuts touches w fs) (trace_cuts touches w ((last_two fs).x ∷ (last_two fs).y ∷ floats_of t))) all j)

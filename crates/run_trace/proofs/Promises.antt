@@ -1,6 +1,7 @@
 -- The promises, proved.
 use Rattle.run_trace.specs.Promises.{Promises}
-use Rattle.run_trace.proofs.Blocks.{pieces, whole, first_edges}
+use Rattle.run_trace.proofs.Pieces.{pieces}
+use Rattle.run_trace.proofs.Blocks.{whole, first_edges}
 use Rattle.run_trace.proofs.Letters.{either_order, touches_word}
 
 pub promises : Promises

@@ -1,16 +1,12 @@
--- A piece's floats: the first two are the sample that is carried over, or stand for nothing.
-use Rattle.std.specs.Prelude.{◌-◌, Bool, List, length, drop, nat_le, slice_index_or, Float}
+-- The last sample of some floats: the one that is carried over to the next piece.
+use Rattle.std.specs.Prelude.{◌-◌, List, length, nat_le, slice_index_or, Float, Option, Some, None}
 use Rattle.std.specs.Float.{nan}
 use Rattle.float.specs.Choice.{when◌then◌else◌}
-use Rattle.plane.specs.Point.{at, origin}
+use Rattle.plane.specs.Point.{at}
 use Rattle.plane.specs.declared.point.Point.{Point}
 
--- the floats that are cut
-unfoldable pub own_floats : Bool → List Float → List Float
-own_floats carried fs = when carried then fs else drop 2 fs
-
--- the sample that is carried over to the next piece; the origin where there is none
-unfoldable pub last_sample : List Float → Point
+-- none where there is none
+unfoldable pub last_sample : List Float → Option Point
 last_sample fs =
-    when nat_le 2 (length fs) then at (slice_index_or fs (length fs - 2) nan) (slice_index_or fs (length fs - 1) nan)
-    else origin
+    when nat_le 2 (length fs) then Some (at (slice_index_or fs (length fs - 2) nan) (slice_index_or fs (length fs - 1) nan))
+    else None

@@ -1,10 +1,9 @@
 -- The words that the program may be started with: a trace number in decimal, and `touches`, in either order.
-use Rattle.std.specs.Prelude.{ℕ, ◌+◌, ◌-◌, ◌*◌, Bool, true, false, List, [], ◌∷◌, length, nat_eq, nat_le}
+use Rattle.std.specs.Prelude.{ℕ, ◌+◌, ◌-◌, ◌*◌, Bool, true, false, List, [], ◌∷◌, length, nat_eq, nat_le, Option, Some, None}
 use Rattle.float.specs.Choice.{when◌then◌else◌, ◌and◌}
 use Rattle.run_trace.specs.declared.words.Word.{Word}
 use Rattle.run_trace.specs.declared.words.Word.TheVariants.{Number, Touches, Other}
 use Rattle.run_trace.specs.declared.words.Asked.{Asked}
-use Rattle.run_trace.specs.declared.words.Asked.TheVariants.{Records, Nothing}
 
 -- ---- a trace number
 
@@ -48,30 +47,26 @@ word_of s = when same s touches_letters then Touches else number_in s
 
 -- ---- the words: at most one of each kind, and no other; trace 0 without a number, no touches without that word
 
-unfoldable pub of_one : Word → Asked
-of_one (Number n) = Records n false
-of_one Touches = Records 0 true
-of_one Other = Nothing
+abbrev pub records : ℕ → Bool → Option Asked
+records whose touches = Some (record { whose = whose; touches = touches })
 
--- a number, and then this word
-unfoldable pub number_and : ℕ → Word → Asked
-number_and n (Number m) = Nothing
-number_and n Touches = Records n true
-number_and n Other = Nothing
+unfoldable pub of_one : Word → Option Asked
+of_one (Number n) = records n false
+of_one Touches = records 0 true
+of_one Other = None
 
--- touches, and then this word
-unfoldable pub touches_and : Word → Asked
-touches_and (Number n) = Records n true
-touches_and Touches = Nothing
-touches_and Other = Nothing
+-- a number and touches, whichever is first
+unfoldable pub of_two : Word → Word → Option Asked
+of_two (Number n) (Number m) = None
+of_two (Number n) Touches = records n true
+of_two (Number n) Other = None
+of_two Touches (Number n) = records n true
+of_two Touches Touches = None
+of_two Touches Other = None
+of_two Other w = None
 
-unfoldable pub of_two : Word → Word → Asked
-of_two (Number n) w = number_and n w
-of_two Touches w = touches_and w
-of_two Other w = Nothing
-
-unfoldable pub asked : List (List ℕ) → Asked
-asked [] = Records 0 false
+unfoldable pub asked : List (List ℕ) → Option Asked
+asked [] = records 0 false
 asked (s ∷ []) = of_one (word_of s)
 asked (s ∷ t ∷ []) = of_two (word_of s) (word_of t)
-asked (s ∷ t ∷ u ∷ more) = Nothing
+asked (s ∷ t ∷ u ∷ more) = None

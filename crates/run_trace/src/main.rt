@@ -13,57 +13,48 @@ mod words;
 ghost use Rattle.std.specs.Prelude.{◌≡◌};
 ghost use Rattle.run_trace.specs.Pieces.{with_answer};
 
-use plane::{Point, Rect};
+use plane::Point;
 use std::env::FillError;
 use std::io::{Read, Write};
 use std::process::ExitCode;
 use std::rt::Env;
 use stream::{Run, Watched};
-use trace::TraceAnswer;
+use trace::{Chart, Counts};
 use words::{Asked, Word};
 
 // Of the edges whose records were written.
-#[derive(Clone, Copy)]
-struct Counts {
+#[derive(Clone, Copy, Default)]
+struct Totals {
     kept: u64,
     missed: u64,
     refused: u64,
 }
 
-// After some pieces: whether there is a sample to carry over, and which; the counts; how the run goes; and
-// how many bytes the last piece has after its whole samples.
+// After some pieces: the sample to carry over, if there is one; the counts; how the run goes; and how many
+// bytes the last piece has after its whole samples.
 #[derive(Clone, Copy)]
 struct Progress {
-    carried: bool,
-    last: Point,
-    counts: Counts,
+    last: Option<Point>,
+    totals: Totals,
     run: Run,
     torn: usize,
 }
 
-impl Counts {
-    fn none() -> Self {
-        Counts {
-            kept: 0,
-            missed: 0,
-            refused: 0,
-        }
-    }
-
-    // With those of one more piece.
-    fn with(self, a: TraceAnswer) -> Self
-        ensures { result ≡ with_answer self a }
+impl Totals {
+    // With the counts of one more piece.
+    fn with(self, c: Counts) -> Self
+        ensures { result ≡ with_answer self c }
     {
-        Counts {
-            kept: self.kept.wrapping_add(a.kept as u64),
-            missed: self.missed.wrapping_add(a.missed as u64),
-            refused: self.refused.wrapping_add(a.refused as u64),
+        Totals {
+            kept: self.kept.wrapping_add(c.kept as u64),
+            missed: self.missed.wrapping_add(c.missed as u64),
+            refused: self.refused.wrapping_add(c.refused as u64),
         }
     }
 
     // Whether all of the line was written.
     fn say<E: Write>(self, said: &mut E, edges: u64) -> bool {
-        let Counts {
+        let Totals {
             kept,
             missed,
             refused,
@@ -76,80 +67,46 @@ impl Counts {
     }
 }
 
-fn say_torn<E: Write>(said: &mut E, bytes: usize) -> bool {
-    if bytes == 0 {
-        return true;
-    }
-    writeln!(said, "trace: the last sample is torn: {bytes} of 16 bytes").is_ok()
-}
-
 // Reads up to 4,095 samples and writes the records of their edges.
 fn next_piece<R: Read, W: Write>(
     input: &mut R,
     output: &mut W,
-    touches: bool,
-    window: Rect,
-    whose: u32,
-    before: Progress,
+    chart: Chart,
+    so_far: Progress,
 ) -> Progress {
-    let carried = before.carried;
-    let sample = before.last;
     let mut bytes = [0u8; 65520];
     let got = stream::read_full(input, &mut bytes);
-    let n = got.bytes;
+    let (Ok(n) | Err(n)) = got;
     let mut records = [0u8; 163800];
-    let cut = piece::cut_piece(
-        touches,
-        carried,
-        sample,
-        &bytes[..n],
-        window,
-        whose,
-        &mut records,
-    );
-    let size = cut.answer.edges * 40;
+    let piece = piece::cut_piece(chart, so_far.last, &bytes[..n], &mut records);
+    let all = piece.counts();
+    let size = all.edges * 40;
     let taken = stream::write_all(output, &records[..size]);
-    let answer = piece::written(
-        touches,
-        cut.answer,
-        taken,
-        carried,
-        sample,
-        &bytes[..n],
-        window,
-        &mut records,
-    );
-    let run = before.run;
-    let counts = before.counts;
-    let last = cut.last;
+    let counts = piece::written(chart, all, taken, so_far.last, &bytes[..n], &mut records);
     Progress {
-        carried: true,
-        last,
-        counts: counts.with(answer),
-        run: run.with(answer.edges, got.failed, taken < size, n == 65520),
+        last: piece.last,
+        totals: so_far.totals.with(counts),
+        run: so_far
+            .run
+            .with(counts.edges, got.is_err(), taken < size, got == Ok(65520)),
         torn: n % 16,
     }
 }
 
 // The pieces one after the other, to the end of the input or to a failure.
-fn cut_all<R: Read, W: Write>(
-    input: &mut R,
-    output: &mut W,
-    touches: bool,
-    window: Rect,
-    whose: u32,
-) -> Progress {
+fn cut_all<R: Read, W: Write>(input: &mut R, output: &mut W, chart: Chart) -> Progress {
     let mut so_far = Progress {
-        carried: false,
-        last: Point { x: 0.0, y: 0.0 },
-        counts: Counts::none(),
+        last: None,
+        totals: Totals::default(),
         run: Run::new(),
         torn: 0,
     };
-    let mut pieces = u64::MAX;
-    while 0 < pieces && so_far.run.more {
-        so_far = next_piece(input, output, touches, window, whose, so_far);
-        pieces -= 1;
+    // A count, since every loop is proved to end.
+    for _ in 0..u64::MAX {
+        if !so_far.run.more {
+            break;
+        }
+        so_far = next_piece(input, output, chart, so_far);
     }
     so_far
 }
@@ -157,52 +114,52 @@ fn cut_all<R: Read, W: Write>(
 // Says the counts, and a torn end where nothing failed before it.
 fn say_all<E: Write>(said: &mut E, at_end: Progress) -> bool {
     let run = at_end.run;
-    let counts = at_end.counts;
-    if run.unread | run.unwritten {
-        return counts.say(said, run.records);
-    }
-    say_torn(said, at_end.torn) & counts.say(said, run.records)
+    let torn = if run.unread || run.unwritten {
+        0
+    } else {
+        at_end.torn
+    };
+    stream::say_torn(said, b"trace", torn) & at_end.totals.say(said, run.records)
 }
 
-// Ends the run; where not all was said, that is a failure too. The status to end with.
-fn end<E: Write>(said: &mut E, run: Run, is_said: bool) -> u8 {
-    let whole = run.with(0, run.unread, run.unwritten | !is_said, false);
-    whole.end(said, b"trace")
-}
-
-// The records of the trace of this number, of what is on standard input; the status to end with.
+// The records of the trace of this number, of what is on standard input; the status to end with. The three streams are lent
+// apart, here and below: some of what is called only reads, some only writes, some only says.
 fn run<R: Read, W: Write, E: Write>(
     input: &mut R,
     output: &mut Watched<W>,
     said: &mut E,
-    touches: bool,
-    whose: u32,
+    asked: Asked,
 ) -> u8 {
     let mut head = [0u8; 32];
     let got = stream::read_full(input, &mut head);
-    let begun = Run::new().with(0, got.failed, false, false);
-    if got.failed {
-        return end(said, begun, true);
+    let begun = Run::new().with(0, got.is_err(), false, false);
+    if got.is_err() {
+        return begun.end(said, b"trace");
     }
-    if got.bytes < 32 {
+    if got != Ok(32) {
         let is_said = said
             .write_all(b"trace: there is no window: the input has under 32 bytes\n")
             .is_ok();
-        return end(said, begun, is_said);
+        return begun.end_said(said, b"trace", is_said);
     }
     let window = reading::window_of(&head);
     if !clip::refuse::window_fine(window) {
         let is_said = said
             .write_all(b"trace: bad window: a side is not finite or beyond 2^500, or lo > hi\n")
             .is_ok();
-        return end(said, begun, is_said);
+        return begun.end_said(said, b"trace", is_said);
     }
-    let at_end = cut_all(input, output, touches, window, whose);
+    let chart = Chart {
+        touches: asked.touches,
+        window,
+        whose: asked.whose,
+    };
+    let at_end = cut_all(input, output, chart);
     if output.gone {
         return stream::READER_GONE;
     }
     let is_said = say_all(said, at_end);
-    end(said, at_end.run, is_said)
+    at_end.run.end_said(said, b"trace", is_said)
 }
 
 // The word at a place, if there is one. One that does not fit here is none that there may be.
@@ -216,15 +173,18 @@ fn word_at(rt: &HostRuntime, place: usize) -> Option<Word> {
 }
 
 // What the words ask for; trace 0, without touches, where there is none.
-fn asked(rt: &HostRuntime) -> Asked {
+fn asked(rt: &HostRuntime) -> Option<Asked> {
     let Some(one) = word_at(rt, 1) else {
-        return Asked::Records(0, false);
+        return Some(Asked {
+            whose: 0,
+            touches: false,
+        });
     };
     let Some(other) = word_at(rt, 2) else {
         return words::of_one(one);
     };
     match word_at(rt, 3) {
-        Some(_) => Asked::Nothing,
+        Some(_) => None,
         None => words::of_two(one, other),
     }
 }
@@ -244,16 +204,13 @@ fn answer<R: Read, W: Write, E: Write>(
     input: &mut R,
     output: &mut Watched<W>,
     said: &mut Watched<E>,
-    asked: Asked,
+    asked: Option<Asked>,
 ) -> u8 {
     let status = match asked {
-        Asked::Records(whose, touches) => run(input, output, said, touches, whose),
-        Asked::Nothing => refuse(said),
+        Some(asked) => run(input, output, said, asked),
+        None => refuse(said),
     };
-    if said.gone {
-        return stream::READER_GONE;
-    }
-    status
+    said.status(status)
 }
 
 fn main(rt: HostRuntime) -> ExitCode {

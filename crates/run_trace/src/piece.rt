@@ -1,136 +1,110 @@
 // One piece of a trace, without the reading and the writing: its records, its answer, and the sample that
 // the next piece begins with.
 ghost use Rattle.std.specs.Prelude.{◌≡◌, ◌*◌, ◌^◌, ◌<◌, ◌≤◌, length, take};
-ghost use Rattle.trace.specs.Answers.{answer_of, buffer_after};
-ghost use Rattle.run_trace.specs.Samples.{own_floats, last_sample};
-ghost use Rattle.run_trace.specs.Pieces.{piece_floats, last_after, bytes_for, written_of};
+ghost use Rattle.std.specs.Result.{result_unwrap_or};
+ghost use Rattle.trace.specs.Answers.{answer_of, buffer_after, no_edges};
+ghost use Rattle.run_trace.specs.Samples.{last_sample};
+ghost use Rattle.run_trace.specs.Pieces.{carried, piece_floats, last_after, bytes_for, written_of};
 
-use plane::{Point, Rect};
-use trace::TraceAnswer;
+use answer::Refusal;
+use plane::Point;
+use trace::{Chart, Counts};
 
 #[derive(Clone, Copy)]
 pub struct Piece {
-    pub answer: TraceAnswer,
-    pub last: Point,
+    pub answer: Result<Counts, Refusal>,
+    pub last: Option<Point>,
+}
+
+impl Piece {
+    // The counts of its edges, zeros beside a refusal.
+    pub(crate) fn counts(self) -> Counts
+        ensures { result ≡ result_unwrap_or self.answer no_edges }
+    {
+        self.answer.unwrap_or_default()
+    }
 }
 
 // The samples in bytes, up to 4,095; the first edge is from the sample before them, where one is carried
 // over.
 pub(crate) fn cut_piece(
-    touches: bool,
-    carried: bool,
-    before: Point,
+    chart: Chart,
+    before: Option<Point>,
     bytes: &[u8],
-    window: Rect,
-    whose: u32,
     records: &mut [u8],
 ) -> Piece
     requires { length bytes.now ≤ 65520 }
-    ensures answer { result.answer ≡ answer_of touches (piece_floats carried before bytes.now) window (length records.old) }
-    ensures bytes { records.new ≡ buffer_after touches records.old (piece_floats carried before bytes.now) window whose }
+    ensures answer { result.answer ≡ answer_of chart.touches (piece_floats before bytes.now) chart.window (length records.old) }
+    ensures bytes { records.new ≡ buffer_after chart.touches records.old (piece_floats before bytes.now) chart.window chart.whose }
     ensures last { result.last ≡ last_after before bytes.now }
-    ensures room { result.answer.edges * 40 ≤ length records.old }
+    ensures room { (result_unwrap_or result.answer no_edges).edges * 40 ≤ length records.old }
 {
     let mut floats = [0.0f64; 8192];
-    floats[0] = before.x;
-    floats[1] = before.y;
-    let n = reading::put_samples(bytes, &mut floats, 2);
-    let answer = cut_floats(touches, &floats[..n], carried, window, whose, records);
+    let from = put_carried(before, &mut floats);
+    let n = reading::put_samples(bytes, &mut floats, from);
     Piece {
-        answer,
+        answer: chart.cut(&floats[..n], records),
         last: last_sample(&floats[..n]),
     }
 }
 
-// The answer for the edges of a piece whose records were written whole, where so many bytes of the records
-// were: that of the samples which these edges join.
+// The counts of the edges of a piece whose records were written whole, where so many bytes of the records
+// were: those of the samples which these edges join.
+#[tactic(auto, using(float::proofs::Choice::branches, float::proofs::Choice::asks))]
 pub(crate) fn written(
-    touches: bool,
-    answer: TraceAnswer,
+    chart: Chart,
+    all: Counts,
     taken: usize,
-    carried: bool,
-    before: Point,
+    before: Option<Point>,
     bytes: &[u8],
-    window: Rect,
     records: &mut [u8],
-) -> TraceAnswer
+) -> Counts
     requires { length bytes.now ≤ 65520 }
-    ensures { result ≡ written_of touches answer taken carried before bytes.now window (length records.old) }
+    ensures { result ≡ written_of chart.touches all taken before bytes.now chart.window (length records.old) }
 {
     let edges = taken / 40;
-    if answer.edges <= edges {
-        return answer;
+    if all.edges <= edges {
+        return all;
     }
-    let n = at_most(bytes_for(carried, edges), bytes);
-    // The answer alone is asked for, and that is the same for every trace number.
-    cut_piece(touches, carried, before, &bytes[..n], window, 0, records).answer
+    let n = bytes_for(before, edges).min(bytes.len());
+    cut_piece(chart, before, &bytes[..n], records).counts()
 }
 
 // A sample for each edge, and one more where none is carried over.
-fn bytes_for(carried: bool, edges: usize) -> usize
+#[tactic(auto, unfolding(crate::specs::Pieces::bytes_for))]
+fn bytes_for(before: Option<Point>, edges: usize) -> usize
     requires { edges * 40 < 2 ^ 64 }
-    ensures { result ≡ bytes_for carried edges }
+    ensures { result ≡ bytes_for before edges }
 {
-    if !carried {
-        return 16 * edges + 16;
+    match before {
+        Some(_) => 16 * edges,
+        None => 16 * edges + 16,
     }
-    16 * edges
 }
 
-// As many of the bytes as there are, n at the most.
-fn at_most(n: usize, bytes: &[u8]) -> usize
-    ensures { (result ≤ length bytes.now) × (take result bytes.now ≡ take n bytes.now) }
+// Puts the sample that is carried over to the front of the floats; how many places it takes.
+#[tactic(auto, using(crate::proofs::Cutting::take_two))]
+fn put_carried(before: Option<Point>, floats: &mut [f64]) -> usize
+    requires { 2 ≤ length floats.old }
+    ensures floats { take result floats.new ≡ carried before }
+    ensures few { result ≤ 2 }
+    ensures long { length floats.new ≡ length floats.old }
 {
-    if n <= bytes.len() {
-        return n;
-    }
-    bytes.len()
+    let Some(sample) = before else {
+        return 0;
+    };
+    floats[0] = sample.x;
+    floats[1] = sample.y;
+    2
 }
 
-// The first two floats are the sample that is carried over, or stand for nothing.
-fn cut_floats(
-    touches: bool,
-    floats: &[f64],
-    carried: bool,
-    window: Rect,
-    whose: u32,
-    records: &mut [u8],
-) -> TraceAnswer
-    ensures answer { result ≡ answer_of touches (own_floats carried floats.now) window (length records.old) }
-    ensures bytes { records.new ≡ buffer_after touches records.old (own_floats carried floats.now) window whose }
-    ensures room { result.edges * 40 ≤ length records.old }
-{
-    if carried {
-        return cut(touches, floats, window, whose, records);
-    }
-    if floats.len() < 2 {
-        return cut(touches, &floats[..0], window, whose, records);
-    }
-    cut(touches, &floats[2..], window, whose, records)
-}
-
-// What is counted fits in what was lent.
-fn cut(touches: bool, floats: &[f64], window: Rect, whose: u32, records: &mut [u8]) -> TraceAnswer
-    ensures answer { result ≡ answer_of touches floats.now window (length records.old) }
-    ensures bytes { records.new ≡ buffer_after touches records.old floats.now window whose }
-    ensures room { result.edges * 40 ≤ length records.old }
-{
-    if touches {
-        return trace::cut_trace_with_touches(floats, window, whose, records);
-    }
-    trace::cut_trace(floats, window, whose, records)
-}
-
-// The last sample; the origin where there is none.
-fn last_sample(floats: &[f64]) -> Point
+// The last sample, if there is one.
+#[tactic(auto, using(crate::proofs::Cutting::last_none, crate::proofs::Cutting::last_is))]
+fn last_sample(floats: &[f64]) -> Option<Point>
     ensures { result ≡ last_sample floats.now }
 {
-    let n = floats.len();
-    if n < 2 {
-        return Point { x: 0.0, y: 0.0 };
-    }
-    Point {
-        x: floats[n - 2],
-        y: floats[n - 1],
+    match floats {
+        [.., x, y] => Some(Point { x: *x, y: *y }),
+        _ => None,
     }
 }

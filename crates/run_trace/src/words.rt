@@ -1,8 +1,8 @@
 // The words that the program may be started with.
 ghost use Rattle.std.specs.Prelude.{◌≡◌};
-ghost use Rattle.run_trace.specs.Words.{number_in, same, word_of, of_one, number_and, touches_and, of_two};
+ghost use Rattle.run_trace.specs.Words.{number_in, word_of, of_one, of_two};
 
-// What a word is.
+// What a word is. Any other word is a kind of its own, and no None: that is where there is no word.
 #[derive(Clone, Copy)]
 pub enum Word {
     // A trace number.
@@ -12,13 +12,11 @@ pub enum Word {
     Other,
 }
 
-// What the words ask for.
+// What the words ask for: the records of this trace, with the edges that only touch the window or without them.
 #[derive(Clone, Copy)]
-pub enum Asked {
-    // The records of this trace, with the edges that only touch the window or without them.
-    Records(u32, bool),
-    // Nothing that there is.
-    Nothing,
+pub struct Asked {
+    pub whose: u32,
+    pub touches: bool,
 }
 
 // The greatest trace number has as many digits.
@@ -27,96 +25,63 @@ const DIGITS: usize = 10;
 pub fn word_of(word: &[u8]) -> Word
     ensures { result ≡ word_of word.now }
 {
-    if is_same(word, b"touches") {
-        return Word::Touches;
+    if word == &b"touches"[..] {
+        Word::Touches
+    } else {
+        number_in(word)
     }
-    number_in(word)
 }
 
-// What one word asks for.
-pub fn of_one(word: Word) -> Asked
+// What one word asks for, where there is such a thing.
+#[tactic(auto, unfolding(crate::specs::Words::of_one))]
+pub fn of_one(word: Word) -> Option<Asked>
     ensures { result ≡ of_one word }
 {
     match word {
-        Word::Number(whose) => Asked::Records(whose, false),
-        Word::Touches => Asked::Records(0, true),
-        Word::Other => Asked::Nothing,
+        Word::Number(whose) => Some(Asked {
+            whose,
+            touches: false,
+        }),
+        Word::Touches => Some(Asked {
+            whose: 0,
+            touches: true,
+        }),
+        Word::Other => None,
     }
 }
 
 // What two words ask for, whichever is first.
-pub fn of_two(word: Word, other: Word) -> Asked
+#[tactic(auto, unfolding(crate::specs::Words::of_two))]
+pub fn of_two(word: Word, other: Word) -> Option<Asked>
     ensures { result ≡ of_two word other }
 {
-    match word {
-        Word::Number(whose) => number_and(whose, other),
-        Word::Touches => touches_and(other),
-        Word::Other => Asked::Nothing,
+    match (word, other) {
+        (Word::Number(whose), Word::Touches) | (Word::Touches, Word::Number(whose)) => {
+            Some(Asked {
+                whose,
+                touches: true,
+            })
+        }
+        _ => None,
     }
 }
 
-fn number_and(whose: u32, word: Word) -> Asked
-    ensures { result ≡ number_and whose word }
-{
-    match word {
-        Word::Number(_) => Asked::Nothing,
-        Word::Touches => Asked::Records(whose, true),
-        Word::Other => Asked::Nothing,
-    }
-}
-
-fn touches_and(word: Word) -> Asked
-    ensures { result ≡ touches_and word }
-{
-    match word {
-        Word::Number(whose) => Asked::Records(whose, true),
-        Word::Touches => Asked::Nothing,
-        Word::Other => Asked::Nothing,
-    }
-}
-
-// A trace number in decimal: one to ten digits, at most 4294967295.
+// A trace number in decimal: one to ten digits, at most 4294967295. std's `parse` would take a sign, and more zeros.
 fn number_in(word: &[u8]) -> Word
     ensures { result ≡ number_in word.now }
 {
-    if word.len() == 0 {
-        return Word::Other;
-    }
-    if DIGITS < word.len() {
+    if word.is_empty() || DIGITS < word.len() {
         return Word::Other;
     }
     let mut n: u64 = 0;
-    let mut i: usize = 0;
-    while i < word.len() {
-        let digit = word[i];
-        if digit < b'0' {
+    for &digit in word {
+        if !digit.is_ascii_digit() {
             return Word::Other;
         }
-        if b'9' < digit {
-            return Word::Other;
-        }
-        n = n * 10 + (digit - b'0') as u64;
-        i += 1;
+        n = n * 10 + u64::from(digit - b'0');
     }
-    if 4_294_967_295 < n {
-        return Word::Other;
+    match u32::try_from(n) {
+        Ok(whose) => Word::Number(whose),
+        Err(_) => Word::Other,
     }
-    Word::Number(n as u32)
-}
-
-// Byte for byte.
-fn is_same(one: &[u8], other: &[u8]) -> bool
-    ensures { result ≡ same one.now other.now }
-{
-    if one.len() != other.len() {
-        return false;
-    }
-    let mut i: usize = 0;
-    while i < one.len() {
-        if one[i] != other[i] {
-            return false;
-        }
-        i += 1;
-    }
-    true
 }

@@ -1,13 +1,13 @@
 -- How a run goes from block to block, and the status that it ends with.
-use Rattle.std.specs.Prelude.{ℕ, ◌+◌, ◌-◌, ◌%◌, ◌^◌, Bool, true, false, List, length, take, nat_le}
+use Rattle.std.specs.Prelude.{ℕ, ◌+◌, ◌-◌, ◌%◌, ◌^◌, Bool, true, false, List, length, take, nat_le, Result, Ok, Err}
 use Rattle.buffer.specs.Text.{line_ends}
 use Rattle.float.specs.Choice.{when◌then◌else◌}
-use Rattle.stream.specs.declared.Got.{Got}
 use Rattle.stream.specs.declared.Run.{Run}
 
 -- how many bytes of a block are answered, with records of so many bytes: where a read failed, those of whole records
-unfoldable pub answered_of : ℕ → Got → ℕ
-answered_of size g = when g.failed then g.bytes - g.bytes % size else g.bytes
+unfoldable pub answered_of : ℕ → Result ℕ ℕ → ℕ
+answered_of size (Ok n) = n
+answered_of size (Err n) = n - n % size
 
 -- how many records of a text were written whole, where so many of its bytes were: all, or a line end for each
 unfoldable pub whole_lines : List ℕ → ℕ → ℕ → ℕ

@@ -1,7 +1,7 @@
 // A writer whose reader goes away. SIGPIPE ends a filter then, but a program of the kit ignores that signal, and such a
 // write fails like any other. So the writer notes it, and the program ends as if by the signal. Whoever starts it where
 // the signal is to be ignored says so, in the variable SIGPIPE of the environment: then it is a failed write.
-ghost use Rattle.std.specs.Prelude.{◌≡◌, false, ◌↔◌, ◌⊎◌, IsErrAnd, IsTrue};
+ghost use Rattle.std.specs.Prelude.{◌≡◌, if◌then◌else◌, false, ◌↔◌, ◌⊎◌, IsErrAnd, IsTrue};
 ghost use Rattle.std.specs.Io.{WritesAtMost};
 ghost use Rattle.std.specs.Io.KnownBytes.{WriteAppends};
 ghost use Rattle.std.specs.IoError.{error_kind};
@@ -40,6 +40,13 @@ impl<W: Write> Watched<W> {
         ensures gone { result.gone ≡ false }
     {
         Watched::new(to, heeds_sigpipe(rt))
+    }
+
+    // The status to end with: this one, unless the reader is gone.
+    pub fn status(&self, status: u8) -> u8
+        ensures { result ≡ (if self.now.gone then 141 else status) }
+    {
+        if self.gone { READER_GONE } else { status }
     }
 }
 

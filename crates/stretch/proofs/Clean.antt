@@ -46,6 +46,8 @@ module _ (w : Rect) (x y : Float) (fine : window_fine w ≡ true) where
       same _ _ (λ r. and_both _ _ (and_both _ _ l r) (and_both _ _ b a)) (λ h. (and_parts _ _ (and_parts _ _ h).0).1)
       ∙ clean_inside w (at x y) fine
 
+pub ruleset sides = (above, left_of, below, by_right)
+
 pub clean_is : (w : Rect) (p : Point) → clean w p ≡ true ↔ ((point_fine p ≡ true) × InRect w p)
 unfolding clean
 clean_is w p =

@@ -5,6 +5,7 @@ use mathlib.Core.Path.{◌≡◌, refl, sym, ap, ap₂, ◌∙◌}
 use mathlib.Core.Bool.{Bool, true, false, not}
 use mathlib.Core.List.{List}
 use lib.Ieee.{Float, eq}
+use Rattle.std.specs.Prelude.{Ok}
 use Rattle.float.specs.Choice.{when◌then◌else◌, ◌and◌}
 use Rattle.float.proofs.Choice.{and_both, then_is, else_is}
 use Rattle.float.proofs.Order.{eq_le, le_num, le_refl, le_eq}
@@ -14,7 +15,6 @@ use Rattle.plane.proofs.Promises as plane
 use Rattle.record.specs.Record.{record_at}
 use Rattle.clip.specs.Answers.{whole, second, first_of, second_of}
 use Rattle.clip.specs.Refuse.{window_fine}
-use Rattle.clip.specs.declared.Clipped.TheVariants.{Kept}
 use Rattle.clip.proofs.Numbers.{fine_from}
 use Rattle.clip.proofs.Promises.{inside_clipped}
 use Rattle.trace.specs.Trace.{same_point, touching, edge_cut, cuts_of}
@@ -51,14 +51,14 @@ not_dropped touches a b =
     ap (λ (t : Bool). t and not touches) (ap (λ (t : Bool). t and not (same_point a b)) s ∙ never_both (same_point a b)) ∙ sym (else_is _ _ _ _ refl refl)
 
 module _ (w : Rect) (fine : window_fine w ≡ true) where
-  both_clean : (touches : Bool) (a b : Point) → clean w a ≡ true → clean w b ≡ true → edge_cut touches w a b ≡ Kept (whole a b)
+  both_clean : (touches : Bool) (a b : Point) → clean w a ≡ true → clean w b ≡ true → edge_cut touches w a b ≡ Ok (whole a b)
   both_clean touches a b ca cb =
       let (fa, ia) = (clean_is w a).0 ca in
       let (fb, ib) = (clean_is w b).0 cb in
       of_drawn touches a b w (whole a b) (inside_clipped a b w (fine_from _ _ (and_both _ _ fa fb) fine) ((plane.promises).box_least a b w ia ib)) (not_dropped touches a b)
 
   pub drawn : (ps : List Point) (i n : ℕ) → AllClean w ps i n → (touches : Bool) (whose k : ℕ) → i ≤ k → k + 1 < i + n
-      → record_at k (records_of whose (cuts_of touches w ps)) ≡ cut_bytes whose (Kept (whole (sample_at k ps) (sample_at (k + 1) ps)))
+      → record_at k (records_of whose (cuts_of touches w ps)) ≡ cut_bytes whose (Ok (whole (sample_at k ps) (sample_at (k + 1) ps)))
   drawn ps i n a touches whose k l h =
       record_is touches whose w ps k (omega (arith, a.there))
       ∙ ap (cut_bytes whose) (both_clean touches (sample_at k ps) (sample_at (k + 1) ps) (a.each k l (omega arith)) (a.each (k + 1) (omega arith) h))

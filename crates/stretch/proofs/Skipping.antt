@@ -28,7 +28,7 @@ unlike true false e = refl
 unlike false true e = refl
 unlike false false e = absurd (true≢false e)
 
-pub begins : {wanted : Bool} {fs : List Float} {w : Rect} {from : ℕ} → From fs w from → Skipped wanted fs w from from
+pub begins : {wanted : Bool} {fs : List Float} {w : Rect} {from : ℕ} → From fs from → Skipped wanted fs w from from
 begins f =
     record { begun = f; even = f.even; further = omega arith; within = λ h. h; few = f.few; passed = λ j l h. absurd (omega arith) }
 
@@ -60,3 +60,5 @@ module _ {wanted : Bool} {fs : List Float} {w : Rect} {from k : ℕ} (v : Skippe
               | inr m ↦ v.passed j l m
             ];
       }
+
+pub ruleset steps = (begins, ends)

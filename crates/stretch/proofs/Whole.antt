@@ -8,7 +8,6 @@ use mathlib.Core.List.{List}
 use borrow.Author.Tests.{lt-ltb, le-ltb}
 use lib.Ieee.{Float}
 use lib.ListN.{length}
-use Rattle.float.proofs.Choice.{then_is, else_is}
 use Rattle.float.proofs.Whole.{le_or_lt}
 use Rattle.plane.specs.declared.rect.Rect.{Rect}
 use Rattle.trace.specs.Trace.{samples_of}
@@ -24,7 +23,7 @@ part from long = record { from = from; length = long }
 
 -- past the samples before `to`
 pub record Passing (fs : List Float) (w : Rect) (p : Part) (k : ℕ) : Type 0 where
-  pub trace : Admitted fs w
+  pub trace : Admitted fs
   pub to : ℕ
   pub first : ℕ
   pub count : ℕ
@@ -35,7 +34,7 @@ pub record Passing (fs : List Float) (w : Rect) (p : Part) (k : ℕ) : Type 0 wh
   pub best : Best w (samples_of fs) to first count
   pub stop : (j : ℕ) → j + 1 ≡ to → Stops w (samples_of fs) j
 
-pub begins : {fs : List Float} {w : Rect} → Admitted fs w → Passing fs w (part 0 0) 0
+pub begins : {fs : List Float} {w : Rect} → Admitted fs → Passing fs w (part 0 0) 0
 begins {fs} {w} a =
     record {
       trace = a;
@@ -51,7 +50,7 @@ begins {fs} {w} a =
     }
 
 module _ {fs : List Float} {w : Rect} {p : Part} {k : ℕ} (v : Passing fs w p k) where
-  pub asks : From fs w k
+  pub asks : From fs k
   asks = record { trace = v.trace; even = omega (arith, v.place); few = v.few }
 
   -- where no sample is left
@@ -72,7 +71,7 @@ module _ {fs : List Float} {w : Rect} {p : Part} {k : ℕ} (v : Passing fs w p k
     none_left h = longest_of (f / 2) none (omega (arith, length_samples fs))
 
     module _ (more : f < length fs) where
-      pub asks_on : From fs w (f + 2)
+      pub asks_on : From fs (f + 2)
       asks_on = record { trace = v.trace; even = omega (arith, u.skipped.even); few = omega arith }
 
       -- and from there up to e
@@ -121,14 +120,15 @@ module _ {fs : List Float} {w : Rect} {p : Part} {k : ℕ} (v : Passing fs w p k
             }
 
         pub goes_on : (q : Part) → q ≡ longer p (part f (e - f)) → Passing fs w q (e + 2)
-        unfolding longer
         goes_on q is =
             let (ef, ee) = evens in
             elim (le_or_lt (e - f) p.length) [
               | inl h ↦
-                  rw (is ∙ sym (else_is _ _ _ _ (le-ltb _ _ h) refl))
+                  rw (rw (le-ltb p.length (e - f) h) at is)
                   (past v.first v.count p v.from v.long (keeps w (samples_of fs) v.to (f / 2) v.stop none v.best (e / 2) some there run end on (omega (arith, v.long))))
               | inr h ↦
-                  rw (is ∙ sym (then_is _ _ _ _ (lt-ltb _ _ h) refl))
+                  rw (rw (lt-ltb p.length (e - f) h) at is)
                   (past (f / 2) (e / 2 - f / 2) (part f (e - f)) (sym ef) (omega arith) (takes w (samples_of fs) v.to (f / 2) v.stop none v.best (e / 2) some there run end on (omega (arith, v.long))))
             ]
+
+pub ruleset steps = (begins, asks, asks_on, end_within, longer_than)

@@ -1,32 +1,29 @@
 -- What the functions inside ask for and leave. No entry's contract and no promise cites it: a reader of those can pass it over.
-use Rattle.std.specs.Prelude.{ℕ, ◌+◌, ◌*◌, ◌/◌, ◌%◌, ◌≤◌, ◌<◌, ◌≡◌, Bool, true, not, List, ltb, Float, length}
-use Rattle.float.specs.Choice.{when◌then◌else◌}
+use Rattle.std.specs.Prelude.{ℕ, ◌+◌, ◌*◌, ◌/◌, ◌%◌, ◌≤◌, ◌<◌, ◌≡◌, Bool, not, if◌then◌else◌, List, ltb, Float, length}
 use Rattle.plane.specs.declared.rect.Rect.{Rect}
-use Rattle.clip.specs.Refuse.{window_fine}
 use Rattle.trace.specs.Trace.{samples_of}
 use Rattle.trace.specs.Promises.{sample_at}
 use Rattle.stretch.specs.Longest.{clean, earliest, longest}
 use Rattle.stretch.specs.declared.Part.{Part}
 
 -- the longer of two, the first if they are as long
-unfoldable pub longer : Part → Part → Part
-longer a b = when ltb a.length b.length then b else a
+abbrev pub longer : Part → Part → Part
+longer a b = if ltb a.length b.length then b else a
 
--- of a trace and a window that are not refused
-pub record Admitted (fs : List Float) (w : Rect) : Type 0 where
+-- of a trace that is not refused
+pub record Admitted (fs : List Float) : Type 0 where
   pub even : length fs % 2 ≡ 0
   pub few : length fs ≤ 8192
-  pub fine : window_fine w ≡ true
 
 -- a place of a sample, or up to one sample past the last
-pub record From (fs : List Float) (w : Rect) (from : ℕ) : Type 0 where
-  pub trace : Admitted fs w
+pub record From (fs : List Float) (from : ℕ) : Type 0 where
+  pub trace : Admitted fs
   pub even : from % 2 ≡ 0
   pub few : from ≤ length fs + 2
 
 -- from a place on up to k: each sample passed is not as wanted
 pub record Skipped (wanted : Bool) (fs : List Float) (w : Rect) (from k : ℕ) : Type 0 where
-  pub begun : From fs w from
+  pub begun : From fs from
   pub even : k % 2 ≡ 0
   pub further : from ≤ k
   pub within : from ≤ length fs → k ≤ length fs

@@ -10,8 +10,7 @@ use Rattle.plane.specs.Point.{at}
 use Rattle.plane.specs.declared.point.Point.{Point}
 use Rattle.plane.specs.declared.rect.Rect.{Rect}
 use Rattle.record.proofs.Joined.{joined_append}
-use Rattle.clip.specs.declared.Clipped.{Clipped}
-use Rattle.trace.specs.Trace.{samples_of, edge_cut, cuts_from, cuts_of, trace_cuts}
+use Rattle.trace.specs.Trace.{Clipped, samples_of, edge_cut, cuts_from, cuts_of, trace_cuts}
 use Rattle.trace.specs.Records.{cut_bytes, records_of, how_many}
 use Rattle.trace.specs.Promises.{Joined}
 

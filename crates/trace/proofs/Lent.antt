@@ -2,63 +2,59 @@
 use Prim.Native.Nat.{ℕ, ◌-◌, ◌*◌, ◌/◌, ◌≤◌, ◌<◌}
 use native.Mathlib.Omega.{arith}
 use mathlib.Core.Path.{◌≡◌, refl}
-use mathlib.Core.Bool.{Bool, true, false}
+use mathlib.Core.Bool.{Bool}
 use mathlib.Core.List.{List, [], append-nil}
-use lib.Dec.{eqb}
 use lib.Ieee.{Float}
 use lib.ListN.{length, drop}
 use borrow.Author.Tests.{leb-true}
-use Rattle.float.specs.Choice.{when◌then◌else◌}
-use Rattle.answer.specs.Answer.{beside}
+use Rattle.std.specs.Prelude.{Result, Ok, Err}
+use Rattle.answer.specs.Refusal.{number, done, value_or, ◌then◌}
+use Rattle.answer.specs.declared.Refusal.{Refusal}
 use Rattle.buffer.specs.Bytes.{followed_by}
 use Rattle.plane.specs.declared.rect.Rect.{Rect}
 use Rattle.record.specs.Record.{record_at}
+use Rattle.record.specs.Numbered.{Numbered}
 use Rattle.record.proofs.Joined.{at_record}
 use Rattle.record.proofs.Numbered as numbers
-use Rattle.clip.specs.Answers.{number_of}
-use Rattle.clip.specs.declared.Clipped.{Clipped}
-use Rattle.trace.specs.Trace.{samples_of, trace_cuts}
+use Rattle.trace.specs.Trace.{Clipped, samples_of, trace_cuts}
 use Rattle.trace.specs.Records.{cut_ends, cut_bytes, records_of}
-use Rattle.trace.specs.Refuse.{trace_number}
-use Rattle.trace.specs.Answers.{buffer_after}
+use Rattle.trace.specs.Refuse.{trace_refusal}
+use Rattle.trace.specs.Answers.{counts_of, no_edges, buffer_after}
 use Rattle.trace.specs.Promises.{Lent}
 use Rattle.trace.proofs.Cuts.{length_cuts, length_cut}
 use Rattle.trace.proofs.Exits.{admitted}
 
 module _ (touches : Bool) (xs : List ℕ) (fs : List Float) (w : Rect) where
-  abbrev number : ℕ
-  number = trace_number fs w (length xs)
-
   abbrev found : List Clipped
   found = trace_cuts touches w fs
 
-  -- where the number is 0 there is room
-  done_fits : number ≡ 0 → length found * 40 ≤ length xs
+  -- where nothing is refused there is room
+  done_fits : trace_refusal fs w (length xs) ≡ done → length found * 40 ≤ length xs
   done_fits e =
       let (t, f, r) = admitted _ _ _ e in
       let h : length (samples_of fs) - 1 ≤ length xs / 40 = leb-true _ _ r in
       omega (arith, length_cuts touches w (samples_of fs))
 
-  -- the records stand in front
-  in_front : (whose k : ℕ) → k < beside number (length found) 0 → record_at k (buffer_after touches xs fs w whose) ≡ record_at k (records_of whose found)
-  unfolding buffer_after beside
-  in_front whose k = go (eqb number 0)
-    where
-      bytes : List ℕ
-      bytes = records_of whose found
+  -- ---- by what is refused, if anything is
+  abbrev after : Result (Unit {0}) Refusal → ℕ → List ℕ
+  after r whose = value_or xs (r then Ok (followed_by (records_of whose found) xs))
 
-      go : (t : Bool) → k < (when t then length found else 0) → record_at k (when t then followed_by bytes xs else xs) ≡ record_at k bytes
-      go true h =
-          unfold when◌then◌else◌ in
-          rw append-nil at (at_record (cut_bytes whose) (cut_bytes whose) (length_cut whose) (length_cut whose) (drop (length bytes) xs) [] ◌≡◌ (λ c. refl) found k h)
-      go false h = unfold when◌then◌else◌ in absurd (omega arith)
+  abbrev edges : Result (Unit {0}) Refusal → ℕ
+  edges r = (value_or no_edges (r then Ok (counts_of found))).edges
+
+  -- the records stand in front
+  in_front : (r : Result (Unit {0}) Refusal) (whose k : ℕ) → k < edges r → record_at k (after r whose) ≡ record_at k (records_of whose found)
+  in_front (Ok x) whose k h =
+      let bytes = records_of whose found in
+      rw append-nil at (at_record (cut_bytes whose) (cut_bytes whose) (length_cut whose) (length_cut whose) (drop (length bytes) xs) [] ◌≡◌ (λ c. refl) found k h)
+  in_front (Err x) whose k h = absurd (omega arith)
+
+  numbered : (r : Result (Unit {0}) Refusal) → Numbered (after r) (edges r)
+  numbered (Ok x) = numbers.numbered number cut_ends (Ok x) found xs
+  numbered (Err x) = numbers.numbered number cut_ends (Err x) found xs
 
   pub lent : Lent touches xs fs w
   unfolding buffer_after
   lent =
-      record {
-        as_long = numbers.as_long number_of cut_ends number found xs done_fits;
-        records = in_front;
-        numbered = numbers.numbered number_of cut_ends number found xs;
-        of_none = numbers.of_none number_of cut_ends number found xs;
-      }
+      let r = trace_refusal fs w (length xs) in
+      record { as_long = numbers.as_long number cut_ends r found xs done_fits; records = in_front r; numbered = numbered r; of_none = numbers.of_none number cut_ends r found xs }

@@ -11,15 +11,15 @@ use lib.ListN.{length, take, get_or, set, length-set, drop_of_length-le}
 use lib.Seq.{take-nil, get_or-set_other}
 use Rattle.float.specs.Choice.{◌and◌}
 use borrow.Author.Tests.{ltb-true, ltb-false}
+use Rattle.answer.specs.Refusal.{number}
 use Rattle.plane.specs.Point.{origin}
 use Rattle.plane.specs.declared.point.Point.{Point}
 use Rattle.plane.specs.declared.rect.Rect.{Rect}
 use Rattle.record.specs.Record.{head_bytes, record_bytes, joined, record_at}
 use Rattle.record.proofs.Joined.{first_record, next_record}
 use Rattle.clip.specs.Refuse.{point_fine}
-use Rattle.clip.specs.Answers.{clipped, number_of}
-use Rattle.clip.specs.declared.Clipped.{Clipped}
-use Rattle.trace.specs.Trace.{edge_cut, cuts_from, cuts_of}
+use Rattle.clip.specs.Answers.{clipped}
+use Rattle.trace.specs.Trace.{Clipped, edge_cut, cuts_from, cuts_of}
 use Rattle.trace.specs.Records.{cut_bytes, records_of}
 use Rattle.trace.specs.Promises.{sample_at}
 use Rattle.trace.proofs.OneEdge.{live}
@@ -76,26 +76,24 @@ module _ (touches : Bool) (whose : ℕ) (w : Rect) where
           no_record (set ps i p) k (omega (arith, l)) ∙ sym (no_record ps k h)
 
 -- ---- dead samples
-live_number : (a b : Point) (w : Rect) → (point_fine a and point_fine b) ≡ true → number_of (clipped a b w) ≡ 2 → ⊥
-unfolding number_of
-live_number a b w p = live (λ c. number_of c ≡ 2 → ⊥) a b w p (λ s e. omega arith) (λ e. omega arith) (λ e. omega arith)
+live_number : (a b : Point) (w : Rect) → (point_fine a and point_fine b) ≡ true → number (clipped a b w) ≡ 2 → ⊥
+live_number a b w p = live (λ c. number c ≡ 2 → ⊥) a b w p (λ s e. omega arith) (λ e. omega arith) (λ e. omega arith)
 
-edge_dead : (touches : Bool) (w : Rect) (a b : Point) → (number_of (edge_cut touches w a b) ≡ 2) ↔ ((point_fine a and point_fine b) ≡ false)
-unfolding number_of
-edge_dead touches w a b = (go (point_fine a and point_fine b) refl (drawn_or_dropped touches a b w), λ e. sym (ap number_of (dead_edge touches a b w e)))
+edge_dead : (touches : Bool) (w : Rect) (a b : Point) → (number (edge_cut touches w a b) ≡ 2) ↔ ((point_fine a and point_fine b) ≡ false)
+edge_dead touches w a b = (go (point_fine a and point_fine b) refl (drawn_or_dropped touches a b w), λ e. sym (ap number (dead_edge touches a b w e)))
   where
-    go : (t : Bool) → (point_fine a and point_fine b) ≡ t → (edge_cut touches w a b ≡ clipped a b w) ⊎ Dropped touches a b w → number_of (edge_cut touches w a b) ≡ 2 → (point_fine a and point_fine b) ≡ false
-    go true p (inl d) e = absurd (live_number a b w p (sym (ap number_of d) ∙ e))
-    go true p (inr d) e = absurd (omega (arith, ap number_of d.missed))
+    go : (t : Bool) → (point_fine a and point_fine b) ≡ t → (edge_cut touches w a b ≡ clipped a b w) ⊎ Dropped touches a b w → number (edge_cut touches w a b) ≡ 2 → (point_fine a and point_fine b) ≡ false
+    go true p (inl d) e = absurd (live_number a b w p (sym (ap number d) ∙ e))
+    go true p (inr d) e = absurd (omega (arith, ap number d.missed))
     go false p d e = p
 
-first_byte : (whose : ℕ) (c : Clipped) → get_or (cut_bytes whose c) 0 0 ≡ number_of c
+first_byte : (whose : ℕ) (c : Clipped) → get_or (cut_bytes whose c) 0 0 ≡ number c
 unfolding record_bytes head_bytes
 first_byte whose c = refl
 
 -- byte 0 of record k is its edge's number
 pub number_is : (touches : Bool) (whose : ℕ) (w : Rect) (ps : List Point) (k : ℕ) → k + 1 < length ps
-    → get_or (record_at k (records_of whose (cuts_of touches w ps))) 0 0 ≡ number_of (edge_cut touches w (sample_at k ps) (sample_at (k + 1) ps))
+    → get_or (record_at k (records_of whose (cuts_of touches w ps))) 0 0 ≡ number (edge_cut touches w (sample_at k ps) (sample_at (k + 1) ps))
 number_is touches whose w ps k h = ap (λ (bs : List ℕ). get_or bs 0 0) (record_is touches whose w ps k h) ∙ first_byte whose _
 
 pub dead : (touches : Bool) (whose : ℕ) (w : Rect) (ps : List Point) (k : ℕ) → k + 1 < length ps

@@ -5,17 +5,17 @@ use mathlib.Core.Logic.{◌⊎◌, inl, inr}
 use mathlib.Core.Bool.{Bool, true, false}
 use mathlib.Core.List.{List, [], ◌∷◌}
 use lib.ListN.{get_or}
-use Rattle.answer.specs.Answer.{done}
+use Rattle.answer.specs.Refusal.{number}
 use Rattle.plane.specs.Rect.{box_of}
 use Rattle.plane.specs.Within.{InRect}
 use Rattle.plane.specs.declared.point.Point.{Point}
 use Rattle.plane.specs.declared.rect.Rect.{Rect}
-use Rattle.clip.specs.Answers.{clipped, number_of, points_of}
+use Rattle.clip.specs.Answers.{clipped, points_of, first_of, second_of}
 use Rattle.clip.specs.Values.{every, OwnAsks}
 use Rattle.clip.specs.Near.{within}
 use Rattle.clip.specs.Promises.{Fine}
 use Rattle.clip.proofs.Promises.{promises}
-use Rattle.trace.specs.Trace.{edge_cut, cuts_of}
+use Rattle.trace.specs.Trace.{Clipped, edge_cut, cuts_of}
 use Rattle.trace.specs.Records.{cut_bytes, records_of}
 use Rattle.record.specs.Record.{record_at}
 use Rattle.trace.specs.Promises.{sample_at, only_touches, LiveEdge, KeptEnds, KeptNear}
@@ -33,18 +33,18 @@ module _ (w : Rect) (ps : List Point) (k : ℕ) (l : LiveEdge w ps k) where
   fine : Fine a b w
   fine = fine_edge a b w l.window l.samples
 
-  number : InRect w a ⊎ InRect w b → number_of (clipped a b w) ≡ 0
-  number (inl i) = (promises.a_kept a b w l.floats fine i).0
-  number (inr i) = (promises.b_kept a b w l.floats fine i).0
+  zero : InRect w a ⊎ InRect w b → number (clipped a b w) ≡ 0
+  zero (inl i) = ap number (promises.a_kept a b w l.floats fine i).1
+  zero (inr i) = ap number (promises.b_kept a b w l.floats fine i).1
 
   pub end_kept : (touches : Bool) (whose : ℕ) → InRect w a ⊎ InRect w b → (touches ≡ true) ⊎ (only_touches w a b ≡ false)
       → KeptEnds whose w a b (record_at k (records_of whose (cuts_of touches w ps)))
   end_kept touches whose i t =
       record {
         points = points_of (clipped a b w);
-        kept = record_is touches whose w ps k l.there ∙ ap (cut_bytes whose) (not_dropped touches a b w t ∙ promises.zero_kept a b w (number i));
-        first = λ j. (promises.a_kept a b w l.floats fine j).1;
-        second = λ j. (promises.b_kept a b w l.floats fine j).1;
+        kept = record_is touches whose w ps k l.there ∙ ap (cut_bytes whose) (not_dropped touches a b w t ∙ promises.zero_kept a b w (zero i));
+        first = λ j. let (s, e, h) = promises.a_kept a b w l.floats fine j in ap (λ (c : Clipped). first_of (points_of c)) e ∙ h;
+        second = λ j. let (s, e, h) = promises.b_kept a b w l.floats fine j in ap (λ (c : Clipped). second_of (points_of c)) e ∙ h;
       }
 
 pub own_asks : (touches : Bool) (whose : ℕ) (w : Rect) (ps : List Point) (k : ℕ) → LiveEdge w ps k
@@ -54,13 +54,14 @@ own_asks touches whose w ps k l = (record_is touches whose w ps k l.there, promi
 
 pub kept_near : (touches : Bool) (whose : ℕ) (w : Rect) (ps : List Point) (i : ℕ) → LiveEdge w ps i → (k : ℕ) → k ≤ 500
     → let a = sample_at i ps in let b = sample_at (i + 1) ps in
-    every (within k) (a.x ∷ a.y ∷ b.x ∷ b.y ∷ []) ≡ true → get_or (record_at i (records_of whose (cuts_of touches w ps))) 0 0 ≡ done
+    every (within k) (a.x ∷ a.y ∷ b.x ∷ b.y ∷ []) ≡ true → get_or (record_at i (records_of whose (cuts_of touches w ps))) 0 0 ≡ 0
     → KeptNear whose k w a b (record_at i (records_of whose (cuts_of touches w ps)))
-kept_near touches whose w ps i l k few within_k zero =
+kept_near touches whose w ps i l k few within_k z =
     let a = sample_at i ps in
     let b = sample_at (i + 1) ps in
-    let n = sym (number_is touches whose w ps i l.there) ∙ zero in
+    let n = sym (number_is touches whose w ps i l.there) ∙ z in
     let e = kept_drawn touches a b w n in
-    let m : number_of (clipped a b w) ≡ done = ap number_of (sym e) ∙ n in
-    let (p, q) = promises.near.kept_near k few a b w l.floats m within_k in
-    record { points = points_of (clipped a b w); kept = record_is touches whose w ps i l.there ∙ ap (cut_bytes whose) (e ∙ promises.zero_kept a b w m); first = p; second = q }
+    let m : number (clipped a b w) ≡ 0 = ap number (sym e) ∙ n in
+    let c = promises.zero_kept a b w m in
+    let (p, q) = promises.near.kept_near k few a b w l.floats within_k _ c in
+    record { points = points_of (clipped a b w); kept = record_is touches whose w ps i l.there ∙ ap (cut_bytes whose) (e ∙ c); first = p; second = q }

@@ -1,13 +1,13 @@
 -- What specs/Promises.antt promises, proved.
-use Prim.Native.Nat.{ℕ, ◌+◌}
+use Prim.Native.Nat.{◌+◌}
 use mathlib.Core.Path.{◌≡◌, refl}
-use mathlib.Core.Bool.{Bool, true, false}
 use mathlib.Core.List.{List}
-use lib.Dec.{eqb}
 use Rattle.float.specs.Choice.{when◌then◌else◌}
-use Rattle.answer.specs.Answer.{beside}
-use Rattle.clip.specs.declared.Clipped.{Clipped}
-use Rattle.trace.specs.Answers.{trace_answer}
+use Rattle.std.specs.Prelude.{Result, Ok, Err}
+use Rattle.answer.specs.Refusal.{value_or, ◌then◌}
+use Rattle.answer.specs.declared.Refusal.{Refusal}
+use Rattle.trace.specs.Trace.{Clipped}
+use Rattle.trace.specs.Answers.{no_edges, counts_of}
 use Rattle.trace.specs.Promises.{Promises}
 use Rattle.trace.proofs.Cuts.{length_trace, all_kinds}
 use Rattle.trace.proofs.Own.{own_samples, two_at_most, dead}
@@ -17,14 +17,9 @@ use Rattle.trace.proofs.Lent.{lent}
 use Rattle.trace.proofs.Untouched.{untouched_record, fewer}
 
 -- zeros add up too
-sums : (t : Bool) (k m r e : ℕ) → k + m + r ≡ e → (when t then k else 0) + (when t then m else 0) + (when t then r else 0) ≡ (when t then e else 0)
-unfolding when◌then◌else◌
-sums true k m r e h = h
-sums false k m r e h = refl
-
-counts : (n : ℕ) (cs : List Clipped) → let r = trace_answer n cs in r.kept + r.missed + r.refused ≡ r.edges
-unfolding beside
-counts n cs = sums (eqb n 0) _ _ _ _ (all_kinds cs)
+counts : (r : Result (Unit {0}) Refusal) (cs : List Clipped) → let c = value_or no_edges (r then Ok (counts_of cs)) in c.kept + c.missed + c.refused ≡ c.edges
+counts (Ok x) cs = all_kinds cs
+counts (Err e) cs = refl
 
 pub promises : Promises
 promises =

@@ -1,5 +1,4 @@
 -- An edge that only touches the window: when it is dropped, and that no other edge is.
-use Prim.Native.Nat.{ℕ}
 use mathlib.Core.Path.{◌≡◌, refl, sym, ap, ◌∙◌}
 use mathlib.Core.Logic.{◌⊎◌, inl, inr, ⊎_elim}
 use native.Mathlib.Omega.{arith}
@@ -9,18 +8,19 @@ use lib.Ieee.{Float, is_nan, lt, eq}
 use Rattle.float.specs.Choice.{when◌then◌else◌, ◌and◌}
 use Rattle.float.proofs.Choice.{then_is, else_is, and_parts}
 use Rattle.float.proofs.Order.{Num, one_less}
-use Rattle.answer.specs.Answer.{done}
+use Rattle.std.specs.Prelude.{Ok, Err}
+use Rattle.answer.specs.Refusal.{number}
+use Rattle.answer.specs.declared.Refusal.{Refusal}
+use Rattle.answer.specs.declared.Refusal.TheVariants.{Missed, NotFinite}
 use Rattle.plane.specs.declared.point.Point.{Point}
 use Rattle.plane.specs.declared.rect.Rect.{Rect}
-use Rattle.clip.specs.Answers.{clipped, number_of}
+use Rattle.clip.specs.Answers.{clipped}
 use Rattle.clip.specs.Promises.{Fine}
 use Rattle.clip.specs.Refuse.{point_fine}
 use Rattle.clip.specs.declared.Segment.{Segment}
-use Rattle.clip.specs.declared.Clipped.{Clipped}
-use Rattle.clip.specs.declared.Clipped.TheVariants.{Kept, Missed, Refused}
 use Rattle.trace.specs.Inner.{Number, dropped}
 use Rattle.trace.specs.Records.{is_refused}
-use Rattle.trace.specs.Trace.{same_point, touching, is_touch, untouched, edge_cut}
+use Rattle.trace.specs.Trace.{Clipped, same_point, touching, is_touch, untouched, edge_cut}
 use Rattle.trace.proofs.OneEdge.{dead_refused, fine_not_refused}
 
 -- what a test for the opposite says
@@ -79,12 +79,12 @@ module _ (touches : Bool) (a b : Point) (s : Segment) where
         both false = unfold when◌then◌else◌ in refl
 
 -- ---- touches wanted or not, and one of them
-stays : (wanted : Bool) (c : Clipped) → (when wanted then c else when false then Missed else c) ≡ c
+stays : (wanted : Bool) (c : Clipped) → (when wanted then c else when false then Err Missed else c) ≡ c
 unfolding when◌then◌else◌
 stays true c = refl
 stays false c = refl
 
-goes : (wanted touch : Bool) (c : Clipped) → (when wanted then c else when touch then Missed else c) ≡ (when (touch and not wanted) then Missed else c)
+goes : (wanted touch : Bool) (c : Clipped) → (when wanted then c else when touch then Err Missed else c) ≡ (when (touch and not wanted) then Err Missed else c)
 unfolding when◌then◌else◌
 goes true true c = refl
 goes true false c = refl
@@ -93,40 +93,36 @@ goes false false c = refl
 
 module _ (touches : Bool) (a b : Point) (w : Rect) where
   -- ---- the edge's cut, by what `clip_edge` answers
-  by_answer : {c : Clipped} → clipped a b w ≡ c → edge_cut touches w a b ≡ (when touches then c else when is_touch a b c then Missed else c)
+  by_answer : {c : Clipped} → clipped a b w ≡ c → edge_cut touches w a b ≡ (when touches then c else when is_touch a b c then Err Missed else c)
   unfolding edge_cut untouched
-  by_answer e = ap (λ (c : Clipped). when touches then c else when is_touch a b c then Missed else c) e
+  by_answer e = ap (λ (c : Clipped). when touches then c else when is_touch a b c then Err Missed else c) e
 
-  pub of_missed : clipped a b w ≡ Missed → edge_cut touches w a b ≡ Missed
+  pub of_refused : (x : Refusal) → clipped a b w ≡ Err x → edge_cut touches w a b ≡ Err x
   unfolding is_touch
-  of_missed e = by_answer e ∙ stays touches Missed
+  of_refused x e = by_answer e ∙ stays touches (Err x)
 
-  pub of_refused : (n : ℕ) → clipped a b w ≡ Refused n → edge_cut touches w a b ≡ Refused n
-  unfolding is_touch
-  of_refused n e = by_answer e ∙ stays touches (Refused n)
-
-  of_kept : (s : Segment) → clipped a b w ≡ Kept s → edge_cut touches w a b ≡ (when dropped touches a b s then Missed else Kept s)
+  of_kept : (s : Segment) → clipped a b w ≡ Ok s → edge_cut touches w a b ≡ (when dropped touches a b s then Err Missed else Ok s)
   unfolding is_touch dropped
-  of_kept s e = by_answer e ∙ goes touches (touching a b s) (Kept s)
+  of_kept s e = by_answer e ∙ goes touches (touching a b s) (Ok s)
 
-  pub of_drawn : (s : Segment) → clipped a b w ≡ Kept s → dropped touches a b s ≡ false → edge_cut touches w a b ≡ Kept s
+  pub of_drawn : (s : Segment) → clipped a b w ≡ Ok s → dropped touches a b s ≡ false → edge_cut touches w a b ≡ Ok s
   of_drawn s e d = of_kept s e ∙ sym (else_is _ _ _ _ d refl)
 
-  pub of_dropped : (s : Segment) → clipped a b w ≡ Kept s → dropped touches a b s ≡ true → edge_cut touches w a b ≡ Missed
+  pub of_dropped : (s : Segment) → clipped a b w ≡ Ok s → dropped touches a b s ≡ true → edge_cut touches w a b ≡ Err Missed
   of_dropped s e d = of_kept s e ∙ sym (then_is _ _ _ _ d refl)
 
   -- ---- so it is that answer, or it was kept and only touches, and counts as missed
   pub record Dropped : Type 0 where
     pub points : Segment
-    pub kept : clipped a b w ≡ Kept points
+    pub kept : clipped a b w ≡ Ok points
     pub touch : touching a b points ≡ true
     pub unwanted : touches ≡ false
-    pub missed : edge_cut touches w a b ≡ Missed
+    pub missed : edge_cut touches w a b ≡ Err Missed
 
   pub drawn_or_dropped : (edge_cut touches w a b ≡ clipped a b w) ⊎ Dropped
   drawn_or_dropped = go (clipped a b w) refl
     where
-      kept : (s : Segment) → clipped a b w ≡ Kept s → (d : Bool) → dropped touches a b s ≡ d → (edge_cut touches w a b ≡ clipped a b w) ⊎ Dropped
+      kept : (s : Segment) → clipped a b w ≡ Ok s → (d : Bool) → dropped touches a b s ≡ d → (edge_cut touches w a b ≡ clipped a b w) ⊎ Dropped
       kept s e true d =
           let h : (touching a b s and not touches) ≡ true = unfold dropped in d in
           let (t, n) = and_parts _ _ h in
@@ -134,9 +130,8 @@ module _ (touches : Bool) (a b : Point) (w : Rect) where
       kept s e false d = inl (of_drawn s e d ∙ sym e)
 
       go : (c : Clipped) → clipped a b w ≡ c → (edge_cut touches w a b ≡ clipped a b w) ⊎ Dropped
-      go (Kept s) e = kept s e (dropped touches a b s) refl
-      go Missed e = inl (of_missed e ∙ sym e)
-      go (Refused n) e = inl (of_refused n e ∙ sym e)
+      go (Ok s) e = kept s e (dropped touches a b s) refl
+      go (Err x) e = inl (of_refused x e ∙ sym e)
 
   -- where touches are kept, or it is none
   pub not_dropped : (touches ≡ true) ⊎ (is_touch a b (clipped a b w) ≡ false) → edge_cut touches w a b ≡ clipped a b w
@@ -147,22 +142,20 @@ module _ (touches : Bool) (a b : Point) (w : Rect) where
       denied d (inr e) = unfold is_touch in true≢false (sym d.touch ∙ sym (ap (is_touch a b) d.kept) ∙ e)
 
   -- where it is kept
-  pub kept_drawn : number_of (edge_cut touches w a b) ≡ done → edge_cut touches w a b ≡ clipped a b w
-  unfolding number_of
-  kept_drawn n = ⊎_elim (λ e. e) (λ d. absurd (omega (arith, ap number_of d.missed))) drawn_or_dropped
+  pub kept_drawn : number (edge_cut touches w a b) ≡ 0 → edge_cut touches w a b ≡ clipped a b w
+  kept_drawn n = ⊎_elim (λ e. e) (λ d. absurd (omega (arith, ap number d.missed))) drawn_or_dropped
 
   -- ---- what stays of its refusal
-  pub dead_edge : (point_fine a and point_fine b) ≡ false → Refused 2 ≡ edge_cut touches w a b
-  dead_edge d = sym (of_refused 2 (sym (dead_refused a b w d)))
+  pub dead_edge : (point_fine a and point_fine b) ≡ false → Err NotFinite ≡ edge_cut touches w a b
+  dead_edge d = sym (of_refused NotFinite (sym (dead_refused a b w d)))
 
   pub live_edge_lem : Fine a b w → is_refused (edge_cut touches w a b) ≡ false
   live_edge_lem f = go (clipped a b w) refl (fine_not_refused a b w f)
     where
-      drop_or_not : (t : Bool) (s : Segment) → is_refused (when t then Missed else Kept s) ≡ false
+      drop_or_not : (t : Bool) (s : Segment) → is_refused (when t then Err Missed else Ok s) ≡ false
       drop_or_not true s = unfold when◌then◌else◌ is_refused in refl
       drop_or_not false s = unfold when◌then◌else◌ is_refused in refl
 
       go : (c : Clipped) → clipped a b w ≡ c → is_refused c ≡ false → is_refused (edge_cut touches w a b) ≡ false
-      go (Kept s) e h = ap is_refused (of_kept s e) ∙ drop_or_not (dropped touches a b s) s
-      go Missed e h = ap is_refused (of_missed e) ∙ h
-      go (Refused n) e h = ap is_refused (of_refused n e) ∙ h
+      go (Ok s) e h = ap is_refused (of_kept s e) ∙ drop_or_not (dropped touches a b s) s
+      go (Err x) e h = ap is_refused (of_refused x e) ∙ h

@@ -5,13 +5,15 @@ use mathlib.Core.Path.{◌≡◌, refl, sym, ap, subst, ◌∙◌}
 use mathlib.Core.Logic.{◌↔◌, inl, inr}
 use mathlib.Core.Bool.{Bool, true, false, not, true≢false}
 use mathlib.Core.List.{List, [], ◌∷◌}
-use lib.Dec.{eqb}
 use lib.Ieee.{Float, eq}
 use lib.ListN.{length, get_or}
 use Rattle.float.specs.Choice.{when◌then◌else◌}
 use Rattle.float.proofs.Choice.{else_is, and_parts, and_both}
 use Rattle.float.proofs.Order.{le_trans, le_eq, eq_le}
-use Rattle.answer.specs.Answer.{done, beside}
+use Rattle.std.specs.Prelude.{Result, Ok, Err}
+use Rattle.answer.specs.Refusal.{number, value_or, ◌then◌}
+use Rattle.answer.specs.declared.Refusal.{Refusal}
+use Rattle.answer.specs.declared.Refusal.TheVariants.{Missed}
 use Rattle.plane.specs.Interval.{from◌to◌, between}
 use Rattle.plane.specs.Within.{In}
 use Rattle.plane.specs.declared.point.Point.{Point}
@@ -19,16 +21,13 @@ use Rattle.plane.specs.declared.interval.Interval.{Interval}
 use Rattle.plane.specs.declared.rect.Rect.{Rect}
 use Rattle.plane.proofs.Between.{between_equal}
 use Rattle.record.specs.Record.{record_at}
-use Rattle.clip.specs.Answers.{clipped, number_of, points_of, first_of, second_of}
+use Rattle.clip.specs.Answers.{clipped, points_of, first_of, second_of}
 use Rattle.clip.specs.declared.Segment.{Segment}
-use Rattle.clip.specs.declared.Clipped.{Clipped}
-use Rattle.clip.specs.declared.Clipped.TheVariants.{Kept, Missed, Refused}
 use Rattle.clip.proofs.Promises.{promises}
-use Rattle.trace.specs.Trace.{samples_of, same_point, touching, is_touch, untouched, edge_cut, cuts_from, cuts_of}
+use Rattle.trace.specs.Trace.{Clipped, samples_of, same_point, touching, is_touch, untouched, edge_cut, cuts_from, cuts_of}
 use Rattle.trace.specs.Records.{cut_bytes, records_of, is_kept, is_missed, is_refused, how_many}
-use Rattle.trace.specs.Refuse.{trace_number}
-use Rattle.trace.specs.Answers.{answer_of}
-use Rattle.trace.specs.declared.TraceAnswer.{TraceAnswer}
+use Rattle.trace.specs.Refuse.{trace_refusal}
+use Rattle.trace.specs.Answers.{counts_of, answer_of}
 use Rattle.trace.specs.Promises.{sample_at, only_touches, touches_from, touches_of, Fewer, NoDot, Untouched}
 use Rattle.trace.proofs.Touch.{not_dropped, kept_drawn}
 use Rattle.trace.proofs.Own.{record_is, number_is}
@@ -40,27 +39,25 @@ module _ (w : Rect) (a b : Point) where
   with_them = not_dropped true a b w (inl refl)
 
   -- of a kept edge the points tell
-  points_tell : (s : Segment) → clipped a b w ≡ Kept s → only_touches w a b ≡ touching a b s
+  points_tell : (s : Segment) → clipped a b w ≡ Ok s → only_touches w a b ≡ touching a b s
   unfolding is_touch
   points_tell s e = ap (is_touch a b) e
 
   -- a touch counts as missed
-  touch_missed : only_touches w a b ≡ true → edge_cut false w a b ≡ Missed
+  touch_missed : only_touches w a b ≡ true → edge_cut false w a b ≡ Err Missed
   unfolding edge_cut untouched when◌then◌else◌
   touch_missed t = rw t
 
-  touch_one : only_touches w a b ≡ true → number_of (edge_cut false w a b) ≡ 1
-  unfolding number_of
-  touch_one t = ap number_of (touch_missed t)
+  touch_one : only_touches w a b ≡ true → number (edge_cut false w a b) ≡ 1
+  touch_one t = ap number (touch_missed t)
 
   -- and is kept with touches
-  touch_kept : only_touches w a b ≡ true → number_of (clipped a b w) ≡ done
+  touch_kept : only_touches w a b ≡ true → number (clipped a b w) ≡ 0
   touch_kept = go (clipped a b w)
     where
-      go : (c : Clipped) → is_touch a b c ≡ true → number_of c ≡ done
-      go (Kept s) t = unfold number_of in refl
-      go Missed t = unfold is_touch in absurd (true≢false (sym t))
-      go (Refused n) t = unfold is_touch in absurd (true≢false (sym t))
+      go : (c : Clipped) → is_touch a b c ≡ true → number c ≡ 0
+      go (Ok s) t = refl
+      go (Err e) t = unfold is_touch in absurd (true≢false (sym t))
 
   -- anything else is the same
   other_same : only_touches w a b ≡ false → edge_cut false w a b ≡ edge_cut true w a b
@@ -74,10 +71,10 @@ one_number a b x e i =
     (le_eq a x j.low j.high, le_eq b x (le_trans b a x q j.low) (le_trans x a b j.high p))
 
 -- kept as one point without touches: the edge is no touch, so its ends are one point, and the kept one lies in their box
-one_point : (w : Rect) (a b : Point) → number_of (clipped a b w) ≡ done → edge_cut false w a b ≡ clipped a b w
+one_point : (w : Rect) (a b : Point) → number (clipped a b w) ≡ 0 → edge_cut false w a b ≡ clipped a b w
     → let s = points_of (clipped a b w) in same_point (first_of s) (second_of s) ≡ true → (same_point a (first_of s) ≡ true) × (same_point b (first_of s) ≡ true)
 one_point w a b m e t =
-    let i = (promises.kept_points a b w m).1.a in
+    let i = (promises.kept_points a b w _ (promises.zero_kept a b w m)).1.a in
     let (x, y) = and_parts _ _ (ends_same (same_point a b) refl) in
     let (ax, bx) = one_number a.x b.x _ x i.x in
     let (ay, by) = one_number a.y b.y _ y i.y in
@@ -89,7 +86,7 @@ one_point w a b m e t =
         let s = points_of (clipped a b w) in
         let c = promises.zero_kept a b w m in
         let touch : touching a b s ≡ true = unfold touching in and_both _ _ t (ap not h) in
-        let n : number_of (clipped a b w) ≡ 1 = ap number_of (sym e) ∙ touch_one w a b (points_tell w a b s c ∙ touch) in
+        let n : number (clipped a b w) ≡ 1 = ap number (sym e) ∙ touch_one w a b (points_tell w a b s c ∙ touch) in
         absurd (omega (arith, m))
 
 module _ (whose : ℕ) (w : Rect) (ps : List Point) (k : ℕ) (there : k + 1 < length ps) where
@@ -108,8 +105,8 @@ module _ (whose : ℕ) (w : Rect) (ps : List Point) (k : ℕ) (there : k + 1 < l
   -- byte 0 tells the two apart
   differ : only_touches w a b ≡ true → shown false ≡ shown true → ⊥
   differ t e =
-      let z : number_of (edge_cut true w a b) ≡ 0 = ap number_of (with_them w a b) ∙ touch_kept w a b t in
-      let m : number_of (edge_cut false w a b) ≡ 1 = touch_one w a b t in
+      let z : number (edge_cut true w a b) ≡ 0 = ap number (with_them w a b) ∙ touch_kept w a b t in
+      let m : number (edge_cut false w a b) ≡ 1 = touch_one w a b t in
       let n = sym (number_is false whose w ps k there) ∙ ap (λ (bs : List ℕ). get_or bs 0 0) e ∙ number_is true whose w ps k there in
       omega arith
 
@@ -120,15 +117,15 @@ module _ (whose : ℕ) (w : Rect) (ps : List Point) (k : ℕ) (there : k + 1 < l
       go true t e = absurd (differ t e)
       go false t e = t
 
-  no_dot : get_or (shown false) 0 0 ≡ done → NoDot whose a b (shown false)
+  no_dot : get_or (shown false) 0 0 ≡ 0 → NoDot whose a b (shown false)
   no_dot z =
       let n = sym (number_is false whose w ps k there) ∙ z in
       let e = kept_drawn false a b w n in
-      let m : number_of (clipped a b w) ≡ done = ap number_of (sym e) ∙ n in
+      let m : number (clipped a b w) ≡ 0 = ap number (sym e) ∙ n in
       let c = promises.zero_kept a b w m in
       record { points = points_of (clipped a b w); kept = is false ∙ ap (cut_bytes whose) (e ∙ c); single = one_point w a b m e }
 
-  longer : (s : Segment) → clipped a b w ≡ Kept s → same_point (first_of s) (second_of s) ≡ false → shown false ≡ cut_bytes whose (Kept s)
+  longer : (s : Segment) → clipped a b w ≡ Ok s → same_point (first_of s) (second_of s) ≡ false → shown false ≡ cut_bytes whose (Ok s)
   longer s e d =
       let none : touching a b s ≡ false = unfold touching in sym (else_is _ _ _ _ d refl) in
       is false ∙ ap (cut_bytes whose) (not_dropped false a b w (inr (points_tell w a b s e ∙ none)) ∙ e)
@@ -151,22 +148,10 @@ with_touch : (a b : Point) (c : Clipped) (t : Bool) → is_touch a b c ≡ t
     × (one is_missed (untouched a b c) ≡ one is_missed c + (when t then 1 else 0))
     × (one is_refused (untouched a b c) ≡ one is_refused c)
 unfolding untouched is_touch is_kept is_missed is_refused when◌then◌else◌
-with_touch a b (Kept s) true e = rw e (refl, refl, refl)
-with_touch a b (Kept s) false e = rw e (refl, refl, refl)
-with_touch a b Missed true e = absurd (true≢false (sym e))
-with_touch a b Missed false e = (refl, refl, refl)
-with_touch a b (Refused n) true e = absurd (true≢false (sym e))
-with_touch a b (Refused n) false e = (refl, refl, refl)
-
-abbrev counted : Bool → ℕ → List Clipped → TraceAnswer
-counted t n cs =
-    record {
-      number = n;
-      kept = when t then how_many is_kept cs else 0;
-      missed = when t then how_many is_missed cs else 0;
-      refused = when t then how_many is_refused cs else 0;
-      edges = when t then length cs else 0;
-    }
+with_touch a b (Ok s) true e = rw e (refl, refl, refl)
+with_touch a b (Ok s) false e = rw e (refl, refl, refl)
+with_touch a b (Err x) true e = absurd (true≢false (sym e))
+with_touch a b (Err x) false e = (refl, omega arith, refl)
 
 module _ (w : Rect) where
   fewer_from : (a : Point) (ps : List Point) → FewerCuts (touches_from w a ps) (cuts_from false w a ps) (cuts_from true w a ps)
@@ -182,16 +167,13 @@ module _ (w : Rect) where
   fewer_cuts [] = record { kept = refl; missed = refl; refused = refl }
   fewer_cuts (a ∷ ps) = fewer_from a ps
 
--- beside 0 they are the answer's, and beside any other number all are zeros
-fewer_beside : (t : Bool) (n m : ℕ) (cs ds : List Clipped) → FewerCuts m cs ds → length cs ≡ length ds
-    → Fewer (when t then m else 0) (counted t n cs) (counted t n ds)
-unfolding when◌then◌else◌
-fewer_beside true n m cs ds h l = record { number = refl; kept = h.kept; missed = h.missed; refused = h.refused; edges = l }
-fewer_beside false n m cs ds h l = record { number = refl; kept = refl; missed = refl; refused = refl; edges = refl }
+-- they are the answers' where nothing is refused, and else all are zeros
+fewer_beside : (r : Result (Unit {0}) Refusal) (n : ℕ) (cs ds : List Clipped) → FewerCuts n cs ds → length cs ≡ length ds
+    → Fewer (value_or 0 (r then Ok n)) (r then Ok (counts_of cs)) (r then Ok (counts_of ds))
+fewer_beside (Ok x) n cs ds h l = record { number = refl; kept = h.kept; missed = h.missed; refused = h.refused; edges = l }
+fewer_beside (Err e) n cs ds h l = record { number = refl; kept = refl; missed = refl; refused = refl; edges = refl }
 
 pub fewer : (fs : List Float) (w : Rect) (bytes : ℕ)
-    → Fewer (beside (trace_number fs w bytes) (touches_of w (samples_of fs)) 0) (answer_of false fs w bytes) (answer_of true fs w bytes)
-unfolding beside
+    → Fewer (value_or 0 (trace_refusal fs w bytes then Ok (touches_of w (samples_of fs)))) (answer_of false fs w bytes) (answer_of true fs w bytes)
 fewer fs w bytes =
-    let n = trace_number fs w bytes in
-    fewer_beside (eqb n 0) n (touches_of w (samples_of fs)) _ _ (fewer_cuts w (samples_of fs)) (length_trace false w fs ∙ sym (length_trace true w fs))
+    fewer_beside (trace_refusal fs w bytes) (touches_of w (samples_of fs)) _ _ (fewer_cuts w (samples_of fs)) (length_trace false w fs ∙ sym (length_trace true w fs))

@@ -1,34 +1,27 @@
 -- The answer for a trace, and what is in the lent buffer after.
-use Rattle.std.specs.Prelude.{ℕ, Bool, List, Float, length}
-use Rattle.answer.specs.Answer.{beside}
+use Rattle.std.specs.Prelude.{ℕ, Bool, List, Float, length, Result, Ok}
+use Rattle.answer.specs.Refusal.{value_or, ◌then◌}
+use Rattle.answer.specs.declared.Refusal.{Refusal}
 use Rattle.buffer.specs.Bytes.{followed_by}
 use Rattle.plane.specs.declared.rect.Rect.{Rect}
-use Rattle.clip.specs.declared.Clipped.{Clipped}
-use Rattle.trace.specs.Trace.{trace_cuts}
+use Rattle.trace.specs.Trace.{Clipped, trace_cuts}
 use Rattle.trace.specs.Records.{is_kept, is_missed, is_refused, how_many, records_of}
-use Rattle.trace.specs.Refuse.{trace_number}
-use Rattle.trace.specs.declared.TraceAnswer.{TraceAnswer}
+use Rattle.trace.specs.Refuse.{trace_refusal}
+use Rattle.trace.specs.declared.Counts.{Counts}
 
--- zeros beside a number
-abbrev pub no_edges : ℕ → TraceAnswer
-no_edges n = record { number = n; kept = 0; missed = 0; refused = 0; edges = 0 }
+-- how many edges there are, and of which kind
+abbrev pub counts_of : List Clipped → Counts
+counts_of cs = record { kept = how_many is_kept cs; missed = how_many is_missed cs; refused = how_many is_refused cs; edges = length cs }
 
--- the counts beside 0, or zeros beside another number
-abbrev pub trace_answer : ℕ → List Clipped → TraceAnswer
-trace_answer n cs =
-    record {
-      number = n;
-      kept = beside n (how_many is_kept cs) 0;
-      missed = beside n (how_many is_missed cs) 0;
-      refused = beside n (how_many is_refused cs) 0;
-      edges = beside n (length cs) 0;
-    }
+-- what stands beside a refusal
+abbrev pub no_edges : Counts
+no_edges = record { kept = 0; missed = 0; refused = 0; edges = 0 }
 
 -- the answer, with so many bytes lent; touches are kept, or not
-abbrev pub answer_of : Bool → List Float → Rect → ℕ → TraceAnswer
-answer_of touches fs w bytes = trace_answer (trace_number fs w bytes) (trace_cuts touches w fs)
+abbrev pub answer_of : Bool → List Float → Rect → ℕ → Result Counts Refusal
+answer_of touches fs w bytes = trace_refusal fs w bytes then Ok (counts_of (trace_cuts touches w fs))
 
--- with 0 the records, of the trace number that was handed in, followed by the old bytes; with any other number the old bytes
+-- the records, of the trace number that was handed in, followed by the old bytes; where something is refused the old bytes
 unfoldable pub buffer_after : Bool → List ℕ → List Float → Rect → ℕ → List ℕ
 buffer_after touches xs fs w whose =
-    beside (trace_number fs w (length xs)) (followed_by (records_of whose (trace_cuts touches w fs)) xs) xs
+    value_or xs (trace_refusal fs w (length xs) then Ok (followed_by (records_of whose (trace_cuts touches w fs)) xs))

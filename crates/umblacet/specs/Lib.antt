@@ -1,4 +1,5 @@
--- What C sees of an edge's answer, and of an axis; and what is promised of calls that write into one buffer.
+-- What C sees of an answer; and what is promised of calls that write into one buffer.
+pub mod Answers
 pub mod Cut
 pub mod Axis
 pub mod Calls

@@ -1,55 +1,56 @@
 // Closed intervals of the line.
 ghost use Rattle.std.specs.Prelude.{◌≡◌};
 ghost use Rattle.plane.specs.Entries.{is_empty_or_refusal, holds_or_refusal, contains_or_refusal, intersects_or_refusal, union_or_refusal, intersection_or_refusal, between_or_refusal};
+ghost use Rattle.umblacet.specs.Answers.{interval_answer, yes_no};
 
-use answer::YesNo;
-use plane::{Interval, IntervalAnswer, interval};
+use crate::answers::{IntervalAnswer, YesNo};
+use plane::{Interval, interval};
 
 #[unsafe(no_mangle)]
 pub extern "C" fn umb_interval_is_empty(i: Interval) -> YesNo
-    ensures { result ≡ is_empty_or_refusal i }
+    ensures { result ≡ yes_no (is_empty_or_refusal i) }
 {
-    interval::is_empty(i)
+    interval::is_empty(i).into()
 }
 
 #[unsafe(no_mangle)]
 pub extern "C" fn umb_interval_contains(i: Interval, x: f64) -> YesNo
-    ensures { result ≡ holds_or_refusal i x }
+    ensures { result ≡ yes_no (holds_or_refusal i x) }
 {
-    interval::contains(i, x)
+    interval::contains(i, x).into()
 }
 
 #[unsafe(no_mangle)]
 pub extern "C" fn umb_interval_contains_interval(i: Interval, j: Interval) -> YesNo
-    ensures { result ≡ contains_or_refusal i j }
+    ensures { result ≡ yes_no (contains_or_refusal i j) }
 {
-    interval::contains_interval(i, j)
+    interval::contains_interval(i, j).into()
 }
 
 #[unsafe(no_mangle)]
 pub extern "C" fn umb_interval_intersects(i: Interval, j: Interval) -> YesNo
-    ensures { result ≡ intersects_or_refusal i j }
+    ensures { result ≡ yes_no (intersects_or_refusal i j) }
 {
-    interval::intersects(i, j)
+    interval::intersects(i, j).into()
 }
 
 #[unsafe(no_mangle)]
 pub extern "C" fn umb_interval_union(i: Interval, j: Interval) -> IntervalAnswer
-    ensures { result ≡ union_or_refusal i j }
+    ensures { result ≡ interval_answer (union_or_refusal i j) }
 {
-    interval::union(i, j)
+    interval::union(i, j).into()
 }
 
 #[unsafe(no_mangle)]
 pub extern "C" fn umb_interval_intersection(i: Interval, j: Interval) -> IntervalAnswer
-    ensures { result ≡ intersection_or_refusal i j }
+    ensures { result ≡ interval_answer (intersection_or_refusal i j) }
 {
-    interval::intersection(i, j)
+    interval::intersection(i, j).into()
 }
 
 #[unsafe(no_mangle)]
 pub extern "C" fn umb_interval_from_point_pair(a: f64, b: f64) -> IntervalAnswer
-    ensures { result ≡ between_or_refusal a b }
+    ensures { result ≡ interval_answer (between_or_refusal a b) }
 {
-    interval::from_point_pair(a, b)
+    interval::from_point_pair(a, b).into()
 }

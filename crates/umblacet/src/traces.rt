@@ -1,9 +1,10 @@
 // A whole trace in one call, without the edges that only touch the window, and with them.
 ghost use Rattle.std.specs.Prelude.{◌≡◌, true, false, length};
 ghost use Rattle.trace.specs.Answers.{answer_of, buffer_after};
+ghost use Rattle.umblacet.specs.Answers.{trace_answer};
 
+use crate::answers::TraceAnswer;
 use plane::Rect;
-use trace::TraceAnswer;
 
 #[unsafe(no_mangle)]
 pub extern "C" fn umb_cut_trace(
@@ -12,10 +13,10 @@ pub extern "C" fn umb_cut_trace(
     whose: u32,
     out: &mut [u8],
 ) -> TraceAnswer
-    ensures answer { result ≡ answer_of false samples.now window (length out.old) }
+    ensures answer { result ≡ trace_answer (answer_of false samples.now window (length out.old)) }
     ensures bytes { out.new ≡ buffer_after false out.old samples.now window whose }
 {
-    trace::cut_trace(samples, window, whose, out)
+    trace::cut_trace(samples, window, whose, out).into()
 }
 
 #[unsafe(no_mangle)]
@@ -25,8 +26,8 @@ pub extern "C" fn umb_cut_trace_with_touches(
     whose: u32,
     out: &mut [u8],
 ) -> TraceAnswer
-    ensures answer { result ≡ answer_of true samples.now window (length out.old) }
+    ensures answer { result ≡ trace_answer (answer_of true samples.now window (length out.old)) }
     ensures bytes { out.new ≡ buffer_after true out.old samples.now window whose }
 {
-    trace::cut_trace_with_touches(samples, window, whose, out)
+    trace::cut_trace_with_touches(samples, window, whose, out).into()
 }

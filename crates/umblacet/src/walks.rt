@@ -1,10 +1,11 @@
 // The walk along a line from face to face.
 ghost use Rattle.std.specs.Prelude.{◌≡◌, length};
 ghost use Rattle.walk.specs.Answers.{walk_or_refusal, buffer_after};
+ghost use Rattle.umblacet.specs.Answers.{walk_answer};
 
+use crate::answers::WalkAnswer;
 use cube::Vector;
 use cube::compute::Uv;
-use walk::WalkAnswer;
 
 #[unsafe(no_mangle)]
 pub extern "C" fn umb_walk(
@@ -16,8 +17,8 @@ pub extern "C" fn umb_walk(
     whose: u32,
     out: &mut [u8],
 ) -> WalkAnswer
-    ensures answer { result ≡ walk_or_refusal (length out.old) face a target b normal }
+    ensures answer { result ≡ walk_answer (walk_or_refusal (length out.old) face a target b normal) }
     ensures bytes { out.new ≡ buffer_after out.old face a target b normal whose }
 {
-    walk::walk(face, a, target, b, normal, whose, out)
+    walk::walk(face, a, target, b, normal, whose, out).into()
 }

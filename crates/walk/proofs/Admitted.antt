@@ -1,12 +1,13 @@
 -- What the input's tests admit.
 use Prim.Native.Nat.{ℕ, ◌≤◌}
 use native.Mathlib.Omega.{arith}
-use mathlib.Core.Path.{◌≡◌}
-use mathlib.Core.Bool.{Bool, true}
+use mathlib.Core.Path.{◌≡◌, refl}
+use mathlib.Core.Bool.{Bool, true, false}
 use borrow.Author.Tests.{not-true, leb-true}
 use Rattle.float.specs.Float.{finite}
-use Rattle.float.proofs.Choice.{split, cases, and_parts}
+use Rattle.float.proofs.Choice.{and_parts}
 use Rattle.float.proofs.Order.{finite_num}
+use Rattle.answer.specs.Refusal.{number, done}
 use Rattle.cube.specs.Vector.{HandedIn}
 use Rattle.cube.specs.Refuse.{cube_refusal}
 use Rattle.cube.specs.declared.vector.Vector.{Vector}
@@ -24,16 +25,16 @@ pub record Fine (f : ℕ) (a : Uv) (t : ℕ) (b : Uv) (p : Vector) : Type 0 wher
   pub ends : Numbers b
   pub normal : Normal p
 
-all_hold : (x y z : Bool) → cube_refusal x y z 0 ≡ 0 → (x ≡ true) × (y ≡ true) × (z ≡ true)
-unfolding cube_refusal
-all_hold x y z e =
-    split x _ _ 0 e (λ a d. split y _ _ 0 d (λ b c. split z _ _ 0 c (λ g h. (a, b, g)) (λ g h. absurd (omega arith))) (λ b c. absurd (omega arith)))
-    (λ a d. absurd (omega arith))
+all_hold : (x y z : Bool) → cube_refusal x y z done ≡ done → (x ≡ true) × (y ≡ true) × (z ≡ true)
+all_hold true true true e = (refl, refl, refl)
+all_hold true true false e = absurd (cc)
+all_hold true false z e = absurd (cc)
+all_hold false y z e = absurd (cc)
 
 numbers : (q : Uv) → finite q.u ≡ true → finite q.v ≡ true → Numbers q
 numbers q u v = record { u = no_nan _ (finite_num _ u); v = no_nan _ (finite_num _ v) }
 
-pub fine : (f : ℕ) (a : Uv) (t : ℕ) (b : Uv) (p : Vector) → HandedIn p → input_refusal f a t b p ≡ 0 → Fine f a t b p
+pub fine : (f : ℕ) (a : Uv) (t : ℕ) (b : Uv) (p : Vector) → HandedIn p → input_refusal f a t b p ≡ done → Fine f a t b p
 fine f a t b p h e =
     let (faces, floats, some) = all_hold _ _ _ e in
     let (F, T) = and_parts _ _ faces in
@@ -50,7 +51,11 @@ fine f a t b p h e =
     }
 
 -- the input is refused with 5 at the most
-pub input_most : (f : ℕ) (a : Uv) (t : ℕ) (b : Uv) (p : Vector) → input_refusal f a t b p ≤ 5
-unfolding cube_refusal
-input_most f a t b p =
-    cases (λ (n : ℕ). n ≤ 5) _ _ _ (λ x. cases (λ (n : ℕ). n ≤ 5) _ _ _ (λ y. cases (λ (n : ℕ). n ≤ 5) _ _ _ (λ z. omega arith) (λ z. omega arith)) (λ y. omega arith)) (λ x. omega arith)
+most : (x y z : Bool) → number (cube_refusal x y z done) ≤ 5
+most true true true = omega arith
+most true true false = omega arith
+most true false z = omega arith
+most false y z = omega arith
+
+pub input_most : (f : ℕ) (a : Uv) (t : ℕ) (b : Uv) (p : Vector) → number (input_refusal f a t b p) ≤ 5
+input_most f a t b p = search most

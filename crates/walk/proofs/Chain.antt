@@ -5,6 +5,8 @@ use mathlib.Core.Path.{◌≡◌, ap}
 use mathlib.Core.Bool.{true, false}
 use lib.Dec.{eqb}
 use lib.Ieee.{Float}
+use Rattle.std.specs.Prelude.{Err}
+use Rattle.answer.specs.declared.Refusal.TheVariants.{OffFace}
 use Rattle.float.specs.Float.{one_f}
 use Rattle.float.proofs.Choice.{cases, split}
 use Rattle.cube.specs.Vector.{vec, is_zero}
@@ -15,7 +17,7 @@ use Rattle.line.specs.Line.{exit_axis, left_at, onward}
 use Rattle.line.specs.Promises.{Finite}
 use Rattle.line.proofs.Next.{finite_in, not_zero_in}
 use Rattle.line.proofs.Promises as line
-use Rattle.walk.specs.Walk.{met, entered_at, stop_number, Segment, segment, segments}
+use Rattle.walk.specs.Walk.{met, entered_at, stop_refusal, Segment, segment, segments}
 use Rattle.walk.specs.Promises.{Follows, FollowedBy, Linked}
 use Rattle.walk.proofs.Over.{onward_beside, enters_one}
 use Rattle.walk.proofs.Square.{moved_square}
@@ -53,10 +55,10 @@ module _ (p : Vector) (v : Finite p) (nz : is_zero p ≡ false) (t : ℕ) where
       let i = (line.promises).next p v nz f t F m in
       cases (Linked p) (eqb f t) _ _ (λ z. (tt, tt)) (λ z. (followed k (segment f a (left_at p f)) (onward p f t) (entered_at p f t) b (follows f F m a), linked k (onward p f t) i.face i.met (entered_at p f t) b))
 
-  pub never_off : (k f : ℕ) → f ≤ 5 → met p f ≡ true → stop_number k p f t ≡ 6 → ⊥
-  unfolding stop_number
-  never_off zero f F m e = omega arith
+  pub never_off : (k f : ℕ) → f ≤ 5 → met p f ≡ true → stop_refusal k p f t ≡ Err OffFace → ⊥
+  unfolding stop_refusal
+  never_off zero f F m e = cc
   never_off (suc k) f F m e =
       let i = (line.promises).next p v nz f t F m in
-      split (eqb f t) _ _ 6 e (λ z w. omega arith)
-      (λ z w. split (met p f) _ _ 6 w (λ y x. never_off k (onward p f t) i.face i.met x) (λ y x. let o : ◌≡◌ {A = ℕ} 0 1 = cc in omega arith))
+      split (eqb f t) _ _ (Err OffFace) e (λ z w. cc)
+      (λ z w. split (met p f) _ _ (Err OffFace) w (λ y x. never_off k (onward p f t) i.face i.met x) (λ y x. let o : ◌≡◌ {A = ℕ} 0 1 = cc in omega arith))

@@ -3,59 +3,59 @@
 use Prim.Native.Nat.{ℕ, zero, suc, ◌+◌, ◌≤◌, ◌<◌}
 use native.Mathlib.Omega.{arith}
 use native.Mathlib.Nat.{eq-or-lt_of_le}
-use mathlib.Core.Path.{◌≡◌, refl, sym, ◌∙◌}
+use mathlib.Core.Path.{◌≡◌, refl, sym}
 use mathlib.Core.Logic.{◌↔◌, ◌⊎◌, inl, inr}
-use mathlib.Core.Bool.{Bool, true, false, cond, true≢false}
+use mathlib.Core.Bool.{true}
 use lib.Dec.{eqb}
-use borrow.Author.Tests.{eqb-true, eq-eqb}
+use Rattle.std.specs.Prelude.{Result, Ok, Err}
+use Rattle.answer.specs.Refusal.{done}
+use Rattle.answer.specs.declared.Refusal.{Refusal}
+use Rattle.answer.specs.declared.Refusal.TheVariants.{OffFace, Unfinished}
 use Rattle.float.proofs.Choice.{split, then_is, cases}
 use Rattle.float.proofs.Whole.{le_or_lt}
 use Rattle.cube.specs.declared.vector.Vector.{Vector}
 use Rattle.line.specs.Line.{onward}
-use Rattle.walk.specs.Walk.{met, stop_number}
+use Rattle.walk.specs.Walk.{met, stop_refusal}
 use Rattle.walk.proofs.Over.{onward_le}
 
--- 1 where the number is 0
-abbrev one : ℕ → ℕ
-one n = cond (eqb n 0) 1 0
+-- 1 where it arrives
+one : Result (Unit {0}) Refusal → ℕ
+one (Ok x) = 1
+one (Err e) = 0
 
-one_most : (n : ℕ) → one n ≤ 1
-one_most n = go (eqb n 0)
-  where
-    go : (b : Bool) → cond b 1 0 ≤ 1
-    go true = omega arith
-    go false = omega arith
+one_most : (m : Result (Unit {0}) Refusal) → one m ≤ 1
+unfolding one
+one_most (Ok x) = omega arith
+one_most (Err e) = omega arith
 
--- from one number to the next: none comes, or one does
-grown : (m n : ℕ) → (m ≡ 0 → n ≡ 0) → ((n ≡ 0 → m ≡ 0) × (one m ≤ one n)) ⊎ (one m < one n)
-grown m n h = go (eqb m 0) (eqb n 0) refl refl
-  where
-    go : (b c : Bool) → eqb m 0 ≡ b → eqb n 0 ≡ c → ((n ≡ 0 → m ≡ 0) × (cond b 1 0 ≤ cond c 1 0)) ⊎ (cond b 1 0 < cond c 1 0)
-    go true true x y = inl ((λ e. eqb-true m 0 x), omega arith)
-    go true false x y = absurd (let z : ◌≡◌ {A = Bool} true false = sym (eq-eqb n 0 (h (eqb-true m 0 x))) ∙ y in true≢false z)
-    go false true x y = inr (omega arith)
-    go false false x y = inl ((λ e. absurd (let z : ◌≡◌ {A = Bool} true false = sym (eq-eqb n 0 e) ∙ y in true≢false z)), omega arith)
+-- from one walk to the next: none comes, or one does
+grown : (m n : Result (Unit {0}) Refusal) → (m ≡ done → n ≡ done) → ((n ≡ done → m ≡ done) × (one m ≤ one n)) ⊎ (one m < one n)
+unfolding one
+grown (Ok x) (Ok y) h = inl ((λ e. refl), omega arith)
+grown (Ok x) (Err e) h = absurd (let z : ◌≡◌ {A = Result (Unit {0}) Refusal} (Err e) done = h refl in cc)
+grown (Err e) (Ok y) h = inr (omega arith)
+grown (Err e) (Err d) h = inl ((λ z. absurd (cc)), omega arith)
 
 module _ (p : Vector) (t : ℕ) (T : t ≤ 5) where
   -- the walk from f with k faces arrives
   abbrev pub Arrives : ℕ → ℕ → Type 0
-  Arrives k f = stop_number k p f t ≡ 0
+  Arrives k f = stop_refusal k p f t ≡ done
 
   -- with one face more: at the target, or as it goes on
   step_back : (k f : ℕ) → Arrives (suc k) f → (eqb f t ≡ true) ⊎ ((met p f ≡ true) × Arrives k (onward p f t))
-  unfolding stop_number
-  step_back k f e = split (eqb f t) _ _ 0 e (λ z w. inl z) (λ z w. split (met p f) _ _ 0 w (λ y x. inr (y, x)) (λ y x. absurd (omega arith)))
+  unfolding stop_refusal
+  step_back k f e = split (eqb f t) _ _ done e (λ z w. inl z) (λ z w. split (met p f) _ _ done w (λ y x. inr (y, x)) (λ y x. absurd (cc)))
 
   step_target : (k f : ℕ) → eqb f t ≡ true → Arrives (suc k) f
-  unfolding stop_number
+  unfolding stop_refusal
   step_target k f z = sym (then_is _ _ _ _ z refl)
 
   step_on : (k f : ℕ) → met p f ≡ true → Arrives k (onward p f t) → Arrives (suc k) f
-  unfolding stop_number
-  step_on k f m a = cases (λ (n : ℕ). n ≡ 0) (eqb f t) _ _ (λ z. refl) (λ z. sym (then_is _ _ _ _ m (sym a)))
+  unfolding stop_refusal
+  step_on k f m a = cases (λ (r : Result (Unit {0}) Refusal). r ≡ done) (eqb f t) _ _ (λ z. refl) (λ z. sym (then_is _ _ _ _ m (sym a)))
 
   more : (k f : ℕ) → Arrives k f → Arrives (suc k) f
-  more zero f e = absurd (let h : ◌≡◌ {A = ℕ} 7 0 = unfold stop_number in e in omega arith)
+  more zero f e = absurd (let h : ◌≡◌ {A = Result (Unit {0}) Refusal} (Err Unfinished) done = unfold stop_refusal in e in cc)
   more (suc k) f e = elim (step_back k f e) [ inl z ↦ step_target (suc k) f z | inr (m, a) ↦ step_on (suc k) f m (more k (onward p f t) a) ]
 
   pub more_to : (k j f : ℕ) → k ≤ j → Arrives k f → Arrives j f
@@ -84,18 +84,18 @@ module _ (p : Vector) (t : ℕ) (T : t ≤ 5) where
   -- ---- how many faces below m arrive
   count : ℕ → ℕ → ℕ
   count zero k = 0
-  count (suc m) k = one (stop_number k p m t) + count m k
+  count (suc m) k = one (stop_refusal k p m t) + count m k
 
   count_most : (m k : ℕ) → count m k ≤ m
   unfolding count
   count_most zero k = omega arith
-  count_most (suc m) k = omega (arith, one_most (stop_number k p m t), count_most m k)
+  count_most (suc m) k = omega (arith, one_most (stop_refusal k p m t), count_most m k)
 
   counted : (m k : ℕ) → (Still m k × (count m k ≤ count m (suc k))) ⊎ (count m k < count m (suc k))
   unfolding count
   counted zero k = inl ((λ f F. absurd (omega arith)), omega arith)
   counted (suc m) k =
-      elim (grown (stop_number k p m t) (stop_number (suc k) p m t) (more k m)) [
+      elim (grown (stop_refusal k p m t) (stop_refusal (suc k) p m t) (more k m)) [
         | inl (h, l) ↦
             elim (counted m k) [
               | inl (s, i) ↦ inl ((λ f F e. elim (eq-or-lt_of_le F) [ inl q ↦ at_last f q h e | inr q ↦ s f (omega arith) e ]), omega arith)
@@ -128,16 +128,16 @@ module _ (p : Vector) (t : ℕ) (T : t ≤ 5) where
         | inr l ↦ absurd (omega (arith, count_most 6 7))
       ]
 
--- ---- 7 exactly when no longer walk would arrive
-pub stops : (k : ℕ) (p : Vector) (f t : ℕ) → (stop_number k p f t ≡ 0) ⊎ ((stop_number k p f t ≡ 6) ⊎ (stop_number k p f t ≡ 7))
-unfolding stop_number
+-- ---- unfinished exactly when no longer walk would arrive
+pub stops : (k : ℕ) (p : Vector) (f t : ℕ) → (stop_refusal k p f t ≡ done) ⊎ ((stop_refusal k p f t ≡ Err OffFace) ⊎ (stop_refusal k p f t ≡ Err Unfinished))
+unfolding stop_refusal
 stops zero p f t = inr (inr refl)
 stops (suc k) p f t =
-    cases (λ (n : ℕ). (n ≡ 0) ⊎ ((n ≡ 6) ⊎ (n ≡ 7))) (eqb f t) _ _ (λ z. inl refl)
-    (λ z. cases (λ (n : ℕ). (n ≡ 0) ⊎ ((n ≡ 6) ⊎ (n ≡ 7))) (met p f) _ _ (λ y. stops k p (onward p f t) t) (λ y. inr (inl refl)))
+    cases (λ (r : Result (Unit {0}) Refusal). (r ≡ done) ⊎ ((r ≡ Err OffFace) ⊎ (r ≡ Err Unfinished))) (eqb f t) _ _ (λ z. inl refl)
+    (λ z. cases (λ (r : Result (Unit {0}) Refusal). (r ≡ done) ⊎ ((r ≡ Err OffFace) ⊎ (r ≡ Err Unfinished))) (met p f) _ _ (λ y. stops k p (onward p f t) t) (λ y. inr (inl refl)))
 
-pub never_arrives : (p : Vector) (f t : ℕ) → f ≤ 5 → t ≤ 5 → (stop_number 8 p f t ≡ 6 → ⊥) → (stop_number 8 p f t ≡ 7) ↔ ((k : ℕ) → stop_number k p f t ≡ 0 → ⊥)
+pub never_arrives : (p : Vector) (f t : ℕ) → f ≤ 5 → t ≤ 5 → (stop_refusal 8 p f t ≡ Err OffFace → ⊥) → (stop_refusal 8 p f t ≡ Err Unfinished) ↔ ((k : ℕ) → stop_refusal k p f t ≡ done → ⊥)
 never_arrives p f t F T n = (
-  (λ e k a. let z = arrives_8 p t T k f F a in omega arith),
+  (λ e k a. let z = arrives_8 p t T k f F a in cc),
   (λ h. elim (stops 8 p f t) [ inl e ↦ absurd (h 8 e) | inr o ↦ elim o [ inl e ↦ absurd (n e) | inr e ↦ e ] ]),
 )

@@ -1,8 +1,9 @@
 -- What is promised of the walk, over the definitions. Statements only; proofs/Promises.antt has their proofs.
-use Rattle.std.specs.Prelude.{ℕ, ◌≤◌, ◌≡◌, ◌↔◌, Bool, true, false, List, [], ◌∷◌, length}
+use Rattle.std.specs.Prelude.{ℕ, ◌≤◌, ◌≡◌, ◌↔◌, Bool, true, false, List, [], ◌∷◌, length, Ok, Err}
 use Rattle.float.specs.Choice.{when◌then◌else◌}
 use Rattle.float.specs.Float.{one_f}
-use Rattle.answer.specs.Answer.{done, off_face, unfinished, short_buffer, beside}
+use Rattle.answer.specs.Refusal.{value_or, ◌then◌, done}
+use Rattle.answer.specs.declared.Refusal.TheVariants.{OffFace, Unfinished, ShortBuffer}
 use Rattle.buffer.specs.Bytes.{followed_by}
 use Rattle.record.specs.Record.{joined}
 use Rattle.record.specs.Numbered.{unnumbered, Numbered}
@@ -14,8 +15,8 @@ use Rattle.cube.specs.declared.compute.Uv.{Uv}
 use Rattle.line.specs.declared.compute.Axis.{Axis}
 use Rattle.line.specs.Line.{one_if, other_axis, coordinate}
 use Rattle.line.specs.Promises.{Finite}
-use Rattle.walk.specs.Walk.{met, stop_number, Segment, segments, segment_ends}
-use Rattle.walk.specs.Refuse.{input_refusal, walk_number}
+use Rattle.walk.specs.Walk.{met, stop_refusal, Segment, segments, segment_ends}
+use Rattle.walk.specs.Refuse.{input_refusal, walk_refusal}
 use Rattle.walk.specs.Answers.{walk_or_refusal, buffer_after}
 
 -- a finite normal that is not zero
@@ -67,15 +68,15 @@ Linked p (s ∷ ss) = FollowedBy p s ss × Linked p ss
 -- in floats that can be handed in, with so many bytes lent
 pub record Entry (bytes f : ℕ) (a : Uv) (t : ℕ) (b : Uv) (p : Vector) : Type 0 where
   -- 6 is given where the line misses the first face, and nowhere else
-  pub off : walk_number bytes f a t b p ≡ off_face → met p f ≡ false
+  pub off : walk_refusal bytes f a t b p ≡ Err OffFace → met p f ≡ false
   -- 7: with however many faces it would have been unfinished
-  pub gives_up : walk_number bytes f a t b p ≡ unfinished → (k : ℕ) → stop_number k p f t ≡ unfinished
+  pub gives_up : walk_refusal bytes f a t b p ≡ Err Unfinished → (k : ℕ) → stop_refusal k p f t ≡ Err Unfinished
   -- 0: it has at most six segments
-  pub at_most_six : walk_number bytes f a t b p ≡ done → length (segments 8 p f a t b) ≤ 6
+  pub at_most_six : walk_refusal bytes f a t b p ≡ done → length (segments 8 p f a t b) ≤ 6
   -- so that 240 bytes always hold it: 8 is not given
-  pub holds : 240 ≤ bytes → walk_number bytes f a t b p ≡ short_buffer → ⊥
+  pub holds : 240 ≤ bytes → walk_refusal bytes f a t b p ≡ Err ShortBuffer → ⊥
   -- and of an input that is admitted, on a first face that the line meets, the number is 0 where it meets the target too, and else 7
-  pub given : input_refusal f a t b p ≡ done → met p f ≡ true → 240 ≤ bytes → walk_number bytes f a t b p ≡ (when met p t then done else unfinished)
+  pub given : input_refusal f a t b p ≡ done → met p f ≡ true → 240 ≤ bytes → walk_refusal bytes f a t b p ≡ (when met p t then done else Err Unfinished)
 
 -- ---- what the entry leaves in the buffer xs
 
@@ -83,10 +84,10 @@ pub record Lent (xs : List ℕ) (f : ℕ) (a : Uv) (t : ℕ) (b : Uv) (p : Vecto
   -- as many bytes as there were
   pub as_long : (whose : ℕ) → length (buffer_after xs f a t b p whose) ≡ length xs
   -- the trace number is in each of the records that the answer counts, and changes no other byte
-  pub numbered : Numbered (buffer_after xs f a t b p) (walk_or_refusal (length xs) f a t b p).count
+  pub numbered : Numbered (buffer_after xs f a t b p) (value_or 0 (walk_or_refusal (length xs) f a t b p))
   -- with number 0 the records are as they were before there was one
   pub of_none : buffer_after xs f a t b p 0
-      ≡ beside (walk_number (length xs) f a t b p) (followed_by (joined (λ s. unnumbered s.face (segment_ends s)) (segments 8 p f a t b)) xs) xs
+      ≡ value_or xs (walk_refusal (length xs) f a t b p then Ok (followed_by (joined (λ s. unnumbered s.face (segment_ends s)) (segments 8 p f a t b)) xs))
 
 -- ---- all of it
 
@@ -94,15 +95,15 @@ pub record Promises : Type 0 where
   -- with however many faces, each segment but the last is followed by the next
   pub linked : (k : ℕ) (p : Vector) (f t : ℕ) → Begun p f t → (a b : Uv) → Linked p (segments k p f a t b)
   -- so number 6 is never given
-  pub never_off : (k : ℕ) (p : Vector) (f t : ℕ) → Begun p f t → stop_number k p f t ≡ off_face → ⊥
+  pub never_off : (k : ℕ) (p : Vector) (f t : ℕ) → Begun p f t → stop_refusal k p f t ≡ Err OffFace → ⊥
   -- whatever the normal, where 6 is not given: 7 exactly when no longer walk, with however many faces, would arrive
-  pub never_arrives : (p : Vector) (f t : ℕ) → f ≤ 5 → t ≤ 5 → (stop_number 8 p f t ≡ off_face → ⊥) → (stop_number 8 p f t ≡ unfinished) ↔ ((k : ℕ) → stop_number k p f t ≡ done → ⊥)
+  pub never_arrives : (p : Vector) (f t : ℕ) → f ≤ 5 → t ≤ 5 → (stop_refusal 8 p f t ≡ Err OffFace → ⊥) → (stop_refusal 8 p f t ≡ Err Unfinished) ↔ ((k : ℕ) → stop_refusal k p f t ≡ done → ⊥)
   -- given up unfinished, a walk is unfinished with however many faces
-  pub given_up : (p : Vector) (f t : ℕ) → Begun p f t → stop_number 8 p f t ≡ unfinished → (k : ℕ) → stop_number k p f t ≡ unfinished
+  pub given_up : (p : Vector) (f t : ℕ) → Begun p f t → stop_refusal 8 p f t ≡ Err Unfinished → (k : ℕ) → stop_refusal k p f t ≡ Err Unfinished
   -- it arrives exactly when the line meets the target
-  pub arrives : (p : Vector) (f t : ℕ) → Begun p f t → stop_number 8 p f t ≡ (when met p t then done else unfinished)
+  pub arrives : (p : Vector) (f t : ℕ) → Begun p f t → stop_refusal 8 p f t ≡ (when met p t then done else Err Unfinished)
   -- a walk that arrives has at most six segments, from whatever face it began
-  pub six : (p : Vector) (f t : ℕ) → Normal p → f ≤ 5 → t ≤ 5 → stop_number 8 p f t ≡ done → (a b : Uv) → length (segments 8 p f a t b) ≤ 6
+  pub six : (p : Vector) (f t : ℕ) → Normal p → f ≤ 5 → t ≤ 5 → stop_refusal 8 p f t ≡ done → (a b : Uv) → length (segments 8 p f a t b) ≤ 6
   -- the same of the number that the entry gives, with a buffer of any length and whatever points
   pub entry : (bytes f : ℕ) (a : Uv) (t : ℕ) (b : Uv) (p : Vector) → HandedIn p → Entry bytes f a t b p
   -- and of what it leaves, whatever it is handed

@@ -1,28 +1,25 @@
 -- What the walk refuses, in document 01's order: 4, 2, 5, then 6 or 7 as the walk finds them, then 8.
-use Rattle.std.specs.Prelude.{ℕ, ◌/◌, not, leb, length}
+use Rattle.std.specs.Prelude.{ℕ, ◌/◌, not, leb, length, Result}
 use Rattle.float.specs.Choice.{◌and◌}
 use Rattle.float.specs.Float.{finite}
-use Rattle.answer.specs.Answer.{unless◌refuse◌else◌, beside, done, short_buffer}
+use Rattle.answer.specs.Refusal.{unless◌refuse◌else◌, ◌then◌, done}
+use Rattle.answer.specs.declared.Refusal.{Refusal}
+use Rattle.answer.specs.declared.Refusal.TheVariants.{ShortBuffer}
 use Rattle.cube.specs.Vector.{finite_vector, is_zero}
 use Rattle.cube.specs.Refuse.{cube_refusal, is_face}
 use Rattle.cube.specs.declared.vector.Vector.{Vector}
 use Rattle.cube.specs.declared.compute.Uv.{Uv}
-use Rattle.walk.specs.Walk.{stop_number, segments}
-
-infixr 3 ◌before◌
--- the first of two numbers that is not 0
-abbrev pub ◌before◌ : ℕ → ℕ → ℕ
-m before n = beside m n m
+use Rattle.walk.specs.Walk.{stop_refusal, segments}
 
 -- 4 for a face or a target above 5, 2 for a float that is not finite, 5 for a normal all zero
-abbrev pub input_refusal : ℕ → Uv → ℕ → Uv → Vector → ℕ
+abbrev pub input_refusal : ℕ → Uv → ℕ → Uv → Vector → Result (Unit {0}) Refusal
 input_refusal f a t b p =
     cube_refusal (is_face f and is_face t) (((finite a.u and finite a.v) and (finite b.u and finite b.v)) and finite_vector p) (not (is_zero p)) done
 
 -- 8 where so many bytes hold fewer whole records than the walk has
-unfoldable pub room_refusal : ℕ → ℕ → ℕ
-room_refusal count bytes = unless leb count (bytes / 40) refuse short_buffer else done
+unfoldable pub room_refusal : ℕ → ℕ → Result (Unit {0}) Refusal
+room_refusal count bytes = unless leb count (bytes / 40) refuse ShortBuffer else done
 
--- the walk's number, with so many bytes lent
-unfoldable pub walk_number : ℕ → ℕ → Uv → ℕ → Uv → Vector → ℕ
-walk_number bytes f a t b p = input_refusal f a t b p before stop_number 8 p f t before room_refusal (length (segments 8 p f a t b)) bytes
+-- all of it, with so many bytes lent
+unfoldable pub walk_refusal : ℕ → ℕ → Uv → ℕ → Uv → Vector → Result (Unit {0}) Refusal
+walk_refusal bytes f a t b p = input_refusal f a t b p then stop_refusal 8 p f t then room_refusal (length (segments 8 p f a t b)) bytes

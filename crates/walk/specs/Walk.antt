@@ -1,7 +1,9 @@
 -- The walk along a line from face to face: the rules of document 01, in its order. The line has the normal p, and the walk goes from the point a of the face f to the point b of the face t.
-use Rattle.std.specs.Prelude.{ℕ, zero, suc, Bool, List, [], ◌∷◌, eqb}
+use Rattle.std.specs.Prelude.{ℕ, zero, suc, Bool, List, [], ◌∷◌, eqb, Result, Err}
 use Rattle.float.specs.Choice.{when◌then◌else◌}
-use Rattle.answer.specs.Answer.{done, off_face, unfinished}
+use Rattle.answer.specs.Refusal.{done}
+use Rattle.answer.specs.declared.Refusal.{Refusal}
+use Rattle.answer.specs.declared.Refusal.TheVariants.{OffFace, Unfinished}
 use Rattle.cube.specs.Faces.{uv, point_at, uvw_of}
 use Rattle.cube.specs.declared.vector.Vector.{Vector}
 use Rattle.cube.specs.declared.compute.Uv.{Uv}
@@ -26,13 +28,13 @@ entered_at p f t = moved_to f (left_at p f) (onward p f t)
 
 -- ---- the walk with at most k faces
 
--- its number: at the target 0, at a missed face 6, after k faces 7
-unfoldable pub stop_number : ℕ → Vector → ℕ → ℕ → ℕ
-stop_number zero p f t = unfinished
-stop_number (suc k) p f t =
+-- where it stops: at the target with none, at a missed face with 6, after k faces with 7
+unfoldable pub stop_refusal : ℕ → Vector → ℕ → ℕ → Result (Unit {0}) Refusal
+stop_refusal zero p f t = Err Unfinished
+stop_refusal (suc k) p f t =
     when eqb f t then done
-    else when met p f then stop_number k p (onward p f t) t
-    else off_face
+    else when met p f then stop_refusal k p (onward p f t) t
+    else Err OffFace
 
 pub record Segment : Type 0 where
   pub face : ℕ

@@ -1,4 +1,5 @@
-// What the entry computes: any normal and any points go in, and nothing is refused.
+// A step of the walk: any normal and any points go in, and nothing is refused. A number that is no face has
+// zeros for its rules.
 ghost use Rattle.std.specs.Prelude.{◌≡◌};
 ghost use Rattle.walk.specs.Walk.{moved_to};
 ghost use Rattle.walk.specs.Inner.{crossing};
@@ -6,22 +7,12 @@ ghost use Rattle.walk.specs.Inner.{crossing};
 use cube::Vector;
 use cube::compute::Uv;
 
-// The count of segments beside 0, or 0 beside another number.
-#[repr(C)]
-#[derive(Clone, Copy)]
-pub struct WalkAnswer {
-    pub number: u8,
-    pub count: usize,
-}
-
 // Where the line leaves a face, and the face where it goes on.
 #[derive(Clone, Copy)]
 pub struct Crossing {
     pub exit: Uv,
     pub next: u8,
 }
-
-// ---- a step
 
 // Out of a face, whose u, v and w the normal n stands in, toward the target.
 pub fn step(face: u8, n: Vector, target: u8) -> Crossing
@@ -37,7 +28,7 @@ pub fn step(face: u8, n: Vector, target: u8) -> Crossing
 pub fn moved(face: u8, at: Uv, next: u8) -> Uv
     ensures { result ≡ moved_to face at next }
 {
-    let p = cube::compute::face_uv_to_xyz(face, at.u, at.v).vector;
-    let q = cube::compute::face_xyz_to_uvw(next, p).vector;
-    Uv { u: q.x, v: q.y }
+    let p = cube::compute::face_uv_to_xyz(face, at.u, at.v).unwrap_or(Vector::ZERO);
+    let q = cube::compute::face_xyz_to_uvw(next, p).unwrap_or(Vector::ZERO);
+    Uv::new(q.x, q.y)
 }

@@ -2,19 +2,18 @@
 ghost use Rattle.std.specs.Prelude.{◌≡◌};
 ghost use Rattle.walk.specs.Refuse.{input_refusal};
 
-use answer::both;
-use cube::Vector;
-use cube::compute::Uv;
-use cube::refuse::{both_finite, in_order};
+use crate::Route;
+use answer::Refusal;
+use cube::refuse::in_order;
 
 // Of two faces, a point of each and a normal.
-pub fn input(face: u8, a: Uv, target: u8, b: Uv, normal: Vector) -> u8
-    ensures { result ≡ input_refusal face a target b normal }
+pub fn input(r: Route) -> Result<(), Refusal>
+    ensures { result ≡ input_refusal r.face r.a r.target r.b r.normal }
 {
-    let ends = both(both_finite(a.u, a.v), both_finite(b.u, b.v));
+    let ends = r.a.is_finite() && r.b.is_finite();
     in_order(
-        both(face <= 5, target <= 5),
-        both(ends, normal.is_finite()),
-        !normal.is_zero(),
+        r.face <= 5 && r.target <= 5,
+        ends && r.normal.is_finite(),
+        !r.normal.is_zero(),
     )
 }

@@ -1,13 +1,15 @@
-use mathlib.Core.Path.{sym, subst}
-use lib.Dec.{T}
-use Rattle.float.proofs.Bits.{nan_sign, not_nan, sign_is}
+use mathlib.Core.Path.{◌≡◌, refl, sym, ◌∙◌}
+use mathlib.Core.Bool.{true, false, false≢true}
+use lib.Ieee.{Float, nan, inf, fin, is_nan}
+use Rattle.float.specs.Float.{sign_bit}
 use Rattle.float.proofs.sign_bit.Goals as goal
 
-pub returns-then-x : goal.returns-then-x
-returns-then-x c = nan_sign _ c.if-x.true
+-- the NaN has no sign
+nan_sign : (x : Float) → is_nan x ≡ true → sign_bit x ≡ false
+unfolding is_nan sign_bit
+nan_sign nan e = refl
+nan_sign (inf s) e = absurd (false≢true e)
+nan_sign (fin s m d) e = absurd (false≢true e)
 
-pub float_to_bits-result : goal.float_to_bits-result
-float_to_bits-result c = not_nan _ (search)
-
-pub returns : goal.returns
-returns c = sign_is c.args.x (not_nan _ c.if-x.false) (subst T (sym c.well_formed.0.1) tt)
+pub returns-else-not-is_nan : goal.returns-else-not-is_nan
+returns-else-not-is_nan c = cc (nan_sign _ (sym c.is_nan.ensures.value ∙ c.if-not-is_nan.false))

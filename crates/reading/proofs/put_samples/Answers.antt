@@ -1,23 +1,17 @@
 -- `put_samples` reads the floats of the samples one after the other.
-use Rattle.std.proofs.Common.{refl, arith}
+use Rattle.std.proofs.Common.{refl, arith, ◌+◌, ◌*◌, ◌/◌, ◌<◌, length}
 use Rattle.reading.proofs.Reading.{starts, goes_on, ends, counted, no_room}
 use Rattle.reading.proofs.put_samples.Goals as goal
+use Rattle.reading.proofs.put_samples.Goals.{then-out-from-via-then-out-from, then-out-from-via-else-out-from+then-out-from-2}
 
 pub returns-then-out-from : goal.returns-then-out-from
 returns-then-out-from c =
     let a = c.args in
+    let n = length a.s.now / 16 * 2 in
+    let h : length a.out.now < a.from + n = elim c.then-out-from.branch [ then-out-from-via-then-out-from w ↦ omega arith | then-out-from-via-else-out-from+then-out-from-2 w ↦ omega arith ] in
     record {
-      count = no_room a.s.now a.out.now a.from _ refl _ _ (omega arith);
-      floats = no_room a.s.now a.out.now a.from _ refl _ _ (omega arith);
-      within = omega arith;
-    }
-
-pub returns-then-out-from-2 : goal.returns-then-out-from-2
-returns-then-out-from-2 c =
-    let a = c.args in
-    record {
-      count = no_room a.s.now a.out.now a.from _ refl _ _ (omega arith);
-      floats = no_room a.s.now a.out.now a.from _ refl _ _ (omega arith);
+      count = no_room a.s.now a.out.now a.from n refl _ _ h;
+      floats = no_room a.s.now a.out.now a.from n refl _ _ h;
       within = omega arith;
     }
 

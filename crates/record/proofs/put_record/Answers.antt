@@ -1,16 +1,12 @@
--- `put_record` is the record's five words, placed one after the other.
-use native.Mathlib.Omega.{arith}
-use Rattle.record.proofs.Words.{words_not, words_are}
+-- `put_record` places the record's five words.
+use mathlib.Core.Path.{refl, ap, ◌∙◌}
+use mathlib.Core.List.{List}
+use Prim.Native.Nat.{ℕ}
+use Rattle.buffer.specs.Bytes.{placed}
+use Rattle.record.proofs.Words.{words_are}
 use Rattle.record.proofs.put_record.Goals as goal
-
-pub returns-then-out-lt-LENGTH : goal.returns-then-out-lt-LENGTH
-returns-then-out-lt-LENGTH c = let a = c.args in words_not a.out.now a.at _ _ _ _ _ (omega arith)
-
-pub returns-then-out-at : goal.returns-then-out-at
-returns-then-out-at c = let a = c.args in words_not a.out.now a.at _ _ _ _ _ (omega arith)
 
 pub returns : goal.returns
 returns c =
-    let a = c.args in
-    words_are a.out.now a.at _ _ _ _ _ _ _ _ _ _ (omega arith)
-    c.put_word.ensures c.put_word-2.ensures c.put_word-3.ensures c.put_word-4.ensures c.put_word-5.ensures
+    c.place.ensures
+    ∙ ap (λ (bs : List ℕ). placed c.args.out.now c.args.at bs) (words_are _ _ _ _ _ _ refl _ _ _ _ _ c.put_word.ensures c.put_word-2.ensures c.put_word-3.ensures c.put_word-4.ensures c.put_word-5.ensures)

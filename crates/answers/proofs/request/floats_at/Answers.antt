@@ -1,9 +1,17 @@
-use Rattle.answers.specs.Request.{floats_at}
-use mathlib.Core.Path.{refl, ap₂}
-use mathlib.Core.List.{◌∷◌}
+-- `floats_at` reads sixteen floats.
+use Rattle.std.proofs.Common.{arith, ◌∙◌}
+use Rattle.std.proofs.Math.ListN.{length-set}
+use Rattle.answers.specs.Request.{float_at}
+use Rattle.answers.proofs.Floats.{floats_more, floats_all}
 use Rattle.answers.proofs.request.floats_at.Goals as goal
 
+pub loop-i-preserved : goal.loop-i-preserved
+unfolding float_at
+loop-i-preserved c =
+    let inv = c.loop-i.invariant in
+    (simp length-set inv.0, floats_more _ _ _ _ _ 16 c.loop-i-test.true inv.0 c.float_at.ensures ∙ inv.1)
+
 pub returns : goal.returns
-unfolding floats_at
 returns c =
-    ap₂ ◌∷◌ c.float_at.ensures (ap₂ ◌∷◌ c.float_at-2.ensures (ap₂ ◌∷◌ c.float_at-3.ensures (ap₂ ◌∷◌ c.float_at-4.ensures (ap₂ ◌∷◌ c.float_at-5.ensures (ap₂ ◌∷◌ c.float_at-6.ensures (ap₂ ◌∷◌ c.float_at-7.ensures (ap₂ ◌∷◌ c.float_at-8.ensures (ap₂ ◌∷◌ c.float_at-9.ensures (ap₂ ◌∷◌ c.float_at-10.ensures (ap₂ ◌∷◌ c.float_at-11.ensures (ap₂ ◌∷◌ c.float_at-12.ensures (ap₂ ◌∷◌ c.float_at-13.ensures (ap₂ ◌∷◌ c.float_at-14.ensures (ap₂ ◌∷◌ c.float_at-15.ensures (ap₂ ◌∷◌ c.float_at-16.ensures refl)))))))))))))))
+    let inv = c.loop-i.invariant in
+    floats_all _ _ _ _ _ 16 (omega arith) inv.0 inv.1

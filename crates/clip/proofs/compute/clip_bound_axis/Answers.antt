@@ -3,10 +3,8 @@ use mathlib.Core.Path.{◌∙◌}
 use Rattle.clip.proofs.Turns.{one_axis, axis_inside, axis_outside}
 use Rattle.clip.proofs.compute.clip_bound_axis.Goals as goal
 
-pub returns-in-Inside : goal.returns-in-Inside
-returns-in-Inside c =
-    let d = c in
-    axis_inside _ _ (d.cut_sides.ensures ∙ one_axis _ _ _) c.in-Inside.r c.in-Inside.is
+pub returns-in_err-r : goal.returns-in_err-r
+returns-in_err-r c = c.from_residual.ensures ∙ axis_outside _ _ (c.cut_sides.ensures ∙ one_axis _ _ _) c.in_err-r.was
 
-pub returns-in-Outside : goal.returns-in-Outside
-returns-in-Outside c = axis_outside _ _ (c.cut_sides.ensures ∙ one_axis _ _ _) c.in-Outside.is
+pub returns : goal.returns
+returns c = axis_inside _ _ (c.cut_sides.ensures ∙ one_axis _ _ _) c.in_ok-r.r c.in_ok-r.was

@@ -1,23 +1,25 @@
 -- `uvw_face` is `neighbour`: no face, the direction minus, and plus.
+use mathlib.Core.Path.{sym, ap, ◌∙◌}
 use Rattle.float.proofs.Choice.{when_eq, when_ne}
-use mathlib.Core.Path.{◌∙◌}
-use native.Mathlib.Omega.{arith}
-use Rattle.cube.specs.Faces.{minus_or_plus, neighbour}
+use Rattle.cube.specs.ByAxes.{unit_toward, facing}
+use Rattle.cube.specs.Faces.{neighbour}
 use Rattle.cube.proofs.Six.{beyond_is}
-use Rattle.cube.proofs.ByAxes.{facing_le, found_is}
+use Rattle.cube.proofs.OnFace.{one, none}
+use Rattle.cube.proofs.ByAxes.{found_is}
 use Rattle.cube.proofs.compute.uvw_face.Goals as goal
 
-pub returns-then-face-gt5 : goal.returns-then-face-gt5
+pub returns-in_default : goal.returns-in_default
 unfolding neighbour
-returns-then-face-gt5 c = beyond_is _ _ _ _ _ _ _ _ c.if-face-gt5.true
-
-pub overflow_add-result : goal.overflow_add-result
-overflow_add-result c = rw c.facing-plus.ensures (omega (arith, facing_le c.uvw_axis.result))
+returns-in_default c = beyond_is _ _ _ _ _ _ _ _ (none _ _ _ (sym c.in_default.is ∙ c.uvw_axis.ensures))
 
 pub returns-then-direction-eq0 : goal.returns-then-direction-eq0
-unfolding minus_or_plus
-returns-then-direction-eq0 c = when_eq _ _ _ _ _ c.if-direction-eq0.true (rw (c.facing-plus.ensures, c.uvw_axis.ensures)) ∙ found_is _ _ _ c.if-face-gt5.false
+unfolding unit_toward
+returns-then-direction-eq0 c =
+    let (F, e) = one _ _ _ (sym c.in-Ok.is ∙ c.uvw_axis.ensures) in
+    c.facing.ensures ∙ ap facing (when_eq _ _ _ _ _ c.if-direction-eq0.true (rw e at c.neg.ensures)) ∙ found_is _ _ _ F
 
-pub returns : goal.returns
-unfolding minus_or_plus
-returns c = when_ne _ _ _ _ _ c.if-direction-eq0.false (rw (c.facing-plus.ensures, c.uvw_axis.ensures)) ∙ found_is _ _ _ c.if-face-gt5.false
+pub returns-else-direction-eq0 : goal.returns-else-direction-eq0
+unfolding unit_toward
+returns-else-direction-eq0 c =
+    let (F, e) = one _ _ _ (sym c.in-Ok.is ∙ c.uvw_axis.ensures) in
+    c.facing-else-direction-eq0.ensures ∙ ap facing (when_ne _ _ _ _ _ c.if-direction-eq0.false e) ∙ found_is _ _ _ F

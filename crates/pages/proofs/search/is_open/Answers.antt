@@ -1,20 +1,19 @@
-use mathlib.Core.Path.{sym, ◌∙◌}
-use Rattle.pages.proofs.Opening.{no_mark, x_misses, x_meets, some_window}
+-- `is_open` asks the mark, then x, then y.
+use mathlib.Core.Path.{refl, ◌∙◌}
+use Rattle.pages.proofs.Opening.{no_mark, x_misses, x_meets}
 use Rattle.pages.proofs.search.is_open.Goals as goal
+use Rattle.pages.proofs.search.is_open.Goals.{then-mark, else-mark}
 
-pub returns-then-not-boxes-at : goal.returns-then-not-boxes-at
-returns-then-not-boxes-at c = no_mark _ _ _ c.if-not-boxes-at.true
+pub returns-then-shares : goal.returns-then-shares
+returns-then-shares c =
+    elim c.if-mark.branch [
+      | then-mark w ↦ x_meets c.args.boxes.now _ c.args.place _ refl w.if-mark.true (cc) _ c.shares-then-shares.ensures
+      | else-mark w ↦ cc
+    ]
 
-pub shares-requires : goal.shares-requires
-shares-requires c = (some_window _ c.requires.2).x
-
-pub returns-then-not-shares : goal.returns-then-not-shares
-returns-then-not-shares c = x_misses _ _ _ c.if-not-boxes-at.false (sym c.shares.ensures ∙ c.if-not-shares.true)
-
-pub shares-requires-2 : goal.shares-requires-2
-shares-requires-2 c = (some_window _ c.requires.2).y
-
-pub returns : goal.returns
-returns c =
-    let b = c in
-    x_meets _ _ _ b.if-not-boxes-at.false (sym b.shares.ensures ∙ c.if-not-shares.false) _ c.shares-2.ensures
+pub returns-else-shares : goal.returns-else-shares
+returns-else-shares c =
+    elim c.if-mark.branch [
+      | then-mark w ↦ c.if-shares.false ∙ x_misses c.args.boxes.now _ c.args.place _ refl w.if-mark.true (cc)
+      | else-mark w ↦ c.if-shares.false ∙ no_mark c.args.boxes.now _ c.args.place _ refl w.if-mark.false
+    ]

@@ -4,15 +4,6 @@ use Rattle.run_stretch.proofs.Decimal.{twenty}
 use Rattle.run_stretch.proofs.Written.{ended_stored}
 use Rattle.run_stretch.proofs.line.put_ended.Goals as goal
 
-pub put_decimal-at-requires : goal.put_decimal-at-requires
-put_decimal-at-requires c = omega (arith, twenty c.args.n (omega arith))
-
-pub bounds-out-at : goal.bounds-out-at
-bounds-out-at c = omega (arith, twenty c.args.n (omega arith))
-
-pub overflow_add-result : goal.overflow_add-result
-overflow_add-result c = omega (arith, twenty c.args.n (omega arith))
-
 pub returns : goal.returns
 returns c =
     let n = c.args.n in

@@ -1,34 +1,31 @@
 -- `number_in` reads the word digit by digit.
-use Rattle.std.proofs.Common.{refl, arith}
-use Rattle.run_trace.proofs.Digits.{empty, too_long, begins, room, too_low, too_high, one_more, too_great, number}
+use Rattle.std.proofs.Common.{sym, arith, ⊎_elim, eqb-true}
+use Rattle.run_trace.proofs.Digits.{empty, too_long, too_low, too_high, one_more, too_great, number}
 use Rattle.run_trace.proofs.words.number_in.Goals as goal
+use Rattle.run_trace.proofs.words.number_in.Goals.{then-is_empty-via-then-is_empty, then-is_empty-via-else-is_empty+then-word-gt-DIGITS}
 
-pub returns-then-word-eq0 : goal.returns-then-word-eq0
-returns-then-word-eq0 c = empty _ c.if-word-eq0.true
+pub returns-then-is_empty : goal.returns-then-is_empty
+returns-then-is_empty c =
+    elim c.then-is_empty.branch [
+      | then-is_empty-via-then-is_empty w ↦ empty _ (eqb-true _ _ (sym w.if-is_empty.ensures))
+      | then-is_empty-via-else-is_empty+then-word-gt-DIGITS w ↦ too_long _ w.if-word-gt-DIGITS.true
+    ]
 
-pub returns-then-word-gt-DIGITS : goal.returns-then-word-gt-DIGITS
-returns-then-word-gt-DIGITS c = too_long _ c.if-word-gt-DIGITS.true
+pub returns-then-not-is_ascii_digit : goal.returns-then-not-is_ascii_digit
+returns-then-not-is_ascii_digit c =
+    let r = c.loop-digit.invariant in
+    let h = c.loop-digit-test.true in
+    ⊎_elim (too_low r h) (too_high r h) c.if-not-is_ascii_digit.ensures.cases
 
-pub loop-i-init : goal.loop-i-init
-loop-i-init c = begins _ c.if-word-eq0.false c.if-word-gt-DIGITS.false
+pub loop-digit-preserved : goal.loop-digit-preserved
+loop-digit-preserved c =
+    let d = c.if-not-is_ascii_digit.ensures.cases in
+    one_more c.loop-digit.invariant c.loop-digit-test.true d.0 d.1 _ (omega (arith, c.from.ensures))
 
-pub returns-then-digit-lt48 : goal.returns-then-digit-lt48
-returns-then-digit-lt48 c = too_low c.loop-i.invariant c.loop-i-test.true c.if-digit-lt48.true
+pub returns-in-Ok : goal.returns-in-Ok
+returns-in-Ok c =
+    let e = c.in-Ok.ensures in
+    rw e.1 (number c.loop-digit.invariant c.loop-digit-test.false (omega (arith, e.0)))
 
-pub returns-then-digit-gt57 : goal.returns-then-digit-gt57
-returns-then-digit-gt57 c = too_high c.loop-i.invariant c.loop-i-test.true c.if-digit-gt57.true
-
-pub overflow_mul-n : goal.overflow_mul-n
-overflow_mul-n c = omega (arith, room c.loop-i.invariant c.loop-i-test.true)
-
-pub overflow_add-n : goal.overflow_add-n
-overflow_add-n c = omega (arith, room c.loop-i.invariant c.loop-i-test.true, c.if-digit-gt57.false)
-
-pub loop-i-preserved : goal.loop-i-preserved
-loop-i-preserved c = one_more c.loop-i.invariant c.loop-i-test.true c.if-digit-lt48.false c.if-digit-gt57.false _ refl
-
-pub returns-then-n-gt4294967295 : goal.returns-then-n-gt4294967295
-returns-then-n-gt4294967295 c = too_great c.loop-i.invariant c.loop-i-test.false c.if-n-gt4294967295.true
-
-pub returns : goal.returns
-returns c = number c.loop-i.invariant c.loop-i-test.false c.if-n-gt4294967295.false
+pub returns-in-Err : goal.returns-in-Err
+returns-in-Err c = let e = c.in-Err.ensures in too_great c.loop-digit.invariant c.loop-digit-test.false (omega (arith, e))

@@ -1,10 +1,6 @@
--- n is the number of the first i digits.
-use Rattle.std.proofs.Common.{◌-◌, length}
+-- n is the number of the digits so far.
 use Rattle.run_trace.proofs.Digits.{Read}
 use Rattle.run_trace.proofs.words.number_in.Given as goal
 
-abbrev pub invariant-loop-i : goal.invariant-loop-i
-invariant-loop-i l = Read l.word l.i l.n
-
-abbrev pub decreases-loop-i : goal.decreases-loop-i
-decreases-loop-i l = length l.word - l.i
+abbrev pub invariant-loop-digit : goal.invariant-loop-digit
+invariant-loop-digit l = Read l.word l.digit-index l.n

@@ -1,12 +1,13 @@
-use Rattle.std.proofs.Common.{sym, refl, ◌∙◌}
-use Rattle.float.proofs.Choice.{then_is, else_is}
+use Rattle.std.proofs.Common.{refl, ◌∙◌}
+use Rattle.float.proofs.Choice.{ask_yes, ask_no}
 use Rattle.run_trace.specs.Words.{word_of}
+use Rattle.run_trace.proofs.Letters.{same_is}
 use Rattle.run_trace.proofs.words.word_of.Goals as goal
 
-pub returns-then-is_same : goal.returns-then-is_same
+pub returns-then-eq : goal.returns-then-eq
 unfolding word_of
-returns-then-is_same c = then_is _ _ _ _ (sym c.is_same.ensures ∙ c.if-is_same.true) refl
+returns-then-eq c = ask_yes _ _ _ _ _ (c.eq.ensures ∙ same_is _ _) c.if-eq.true refl
 
-pub returns : goal.returns
+pub returns-else-eq : goal.returns-else-eq
 unfolding word_of
-returns c = else_is _ _ _ _ (sym c.is_same.ensures ∙ c.if-is_same.false) c.number_in.ensures
+returns-else-eq c = ask_no _ _ _ _ _ (c.eq.ensures ∙ same_is _ _) c.if-eq.false c.number_in.ensures

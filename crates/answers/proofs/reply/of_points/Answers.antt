@@ -1,7 +1,0 @@
--- `of_points` is `points_reply`.
-use Rattle.answers.specs.Reply.{points_reply}
-use Rattle.answers.proofs.reply.of_points.Goals as goal
-
-pub returns : goal.returns
-unfolding points_reply
-returns c = rw (c.to_bits-4.ensures, c.to_bits-3.ensures, c.to_bits-2.ensures, c.to_bits.ensures) at c.new.ensures

@@ -1,6 +1,0 @@
--- The entry `unorm`.
-use Rattle.cube.proofs.OnFace.{also_floats}
-use Rattle.cube.proofs.unorm.Goals as goal
-
-pub returns : goal.returns
-returns c = rw (c.also.ensures, c.is_finite.ensures, c.unorm-p.ensures, also_floats) at c.answer.ensures

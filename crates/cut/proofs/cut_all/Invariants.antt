@@ -1,5 +1,0 @@
--- The blocks are counted down.
-use Rattle.cut.proofs.cut_all.Given as goal
-
-abbrev pub decreases-loop-blocks : goal.decreases-loop-blocks
-decreases-loop-blocks g l = l.blocks

@@ -1,6 +1,0 @@
-use Rattle.cut.specs.Record.{point_at}
-use Rattle.cut.proofs.lines.point_at.Goals as goal
-
-pub returns : goal.returns
-unfolding point_at
-returns c = rw (c.float_at-2.ensures, c.float_at.ensures)

@@ -1,5 +1,0 @@
--- The entry `point::cross`: the method of that name, beside the number of what is refused.
-use Rattle.plane.proofs.point.cross.Goals as goal
-
-pub returns : goal.returns
-returns c = rw (c.cross.ensures, c.need_finite.ensures, c.both.ensures, c.is_finite-2.ensures, c.is_finite.ensures) at c.answer.ensures

@@ -1,9 +1,0 @@
--- `RectAnswer::answer`: the value beside 0, zeros beside another number.
-use Rattle.answer.proofs.Beside.{beside_done, beside_other}
-use Rattle.plane.proofs.rect.RectAnswer.answer.Goals as goal
-
-pub returns-then-number-eq-DONE : goal.returns-then-number-eq-DONE
-returns-then-number-eq-DONE c = rw (← beside_done _ _ _ c.if-number-eq-DONE.true)
-
-pub returns : goal.returns
-returns c = rw (← beside_other _ _ _ c.if-number-eq-DONE.false)

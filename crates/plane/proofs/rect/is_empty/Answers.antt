@@ -1,5 +1,0 @@
--- The entry `rect::is_empty`: the method of that name, beside the number of what is refused.
-use Rattle.plane.proofs.rect.is_empty.Goals as goal
-
-pub returns : goal.returns
-returns c = rw (c.is_empty.ensures, c.need_finite.ensures, c.is_finite.ensures) at c.answer.ensures

@@ -1,5 +1,0 @@
--- `samples` is what it refuses, in order.
-use Rattle.trace.proofs.refuse.samples.Goals as goal
-
-pub returns : goal.returns
-returns c = cc
