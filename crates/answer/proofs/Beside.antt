@@ -1,5 +1,4 @@
 -- What stands beside the number of an answer: its value beside 0, and zeros beside any other.
-use Prim.Native.Nat.{ℕ}
 use mathlib.Core.Path.{◌≡◌, refl}
 use native.Mathlib.Omega.{arith}
 use Rattle.std.specs.Prelude.{Result, Ok, Err}

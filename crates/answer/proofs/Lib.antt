@@ -1,2 +1,3 @@
 -- What is known of the numbers.
 pub mod Beside
+pub mod Promises

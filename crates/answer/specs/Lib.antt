@@ -1,2 +1,3 @@
 -- Why there is no value, and the number that says so.
 pub mod Refusal
+pub mod Promises

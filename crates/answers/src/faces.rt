@@ -8,15 +8,21 @@ use crate::request::{float_at, number_at, vector_at};
 use crate::written::Line;
 
 #[tactic(auto, unfolding(crate::specs::Table::face_op), using(crate::proofs::Listed::listed))]
-pub fn face_op(op: u64, s: &[u8]) -> Line
-    ensures { result ≡ reply_line (face_op op s.now) }
+pub fn face_op(op: u64, s: &[u8], line: &mut Line)
+    ensures { line.new ≡ reply_line (face_op op s.now) }
 {
     match op {
-        40 => reply(cube::face(vector_at(s, 1))),
-        41 => reply(cube::xyz_to_face_uv(vector_at(s, 1))),
-        42 => reply(cube::face_xyz_to_uv(number_at(s, 1), vector_at(s, 2))),
-        43 => reply(cube::face_uv_to_xyz(number_at(s, 1), float_at(s, 2), float_at(s, 3))),
-        44 => reply(cube::face_xyz_to_uvw(number_at(s, 1), vector_at(s, 2))),
-        _ => only(255),
+        40 => reply(cube::face(vector_at(s, 1)), line),
+        41 => reply(cube::xyz_to_face_uv(vector_at(s, 1)), line),
+        42 => reply(cube::face_xyz_to_uv(number_at(s, 1), vector_at(s, 2)), line),
+        43 => reply(
+            cube::face_uv_to_xyz(number_at(s, 1), float_at(s, 2), float_at(s, 3)),
+            line,
+        ),
+        44 => reply(
+            cube::face_xyz_to_uvw(number_at(s, 1), vector_at(s, 2)),
+            line,
+        ),
+        _ => only(255, line),
     }
 }

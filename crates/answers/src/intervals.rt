@@ -9,17 +9,29 @@ use crate::written::Line;
 use plane::interval;
 
 #[tactic(auto, unfolding(crate::specs::Table::interval_op), using(crate::proofs::Listed::listed))]
-pub fn interval_op(op: u64, s: &[u8]) -> Line
-    ensures { result ≡ reply_line (interval_op op s.now) }
+pub fn interval_op(op: u64, s: &[u8], line: &mut Line)
+    ensures { line.new ≡ reply_line (interval_op op s.now) }
 {
     match op {
-        10 => reply(interval::is_empty(interval_at(s, 1))),
-        11 => reply(interval::contains(interval_at(s, 1), float_at(s, 3))),
-        12 => reply(interval::contains_interval(interval_at(s, 1), interval_at(s, 3))),
-        13 => reply(interval::intersects(interval_at(s, 1), interval_at(s, 3))),
-        14 => reply(interval::union(interval_at(s, 1), interval_at(s, 3))),
-        15 => reply(interval::intersection(interval_at(s, 1), interval_at(s, 3))),
-        17 => reply(interval::from_point_pair(float_at(s, 1), float_at(s, 2))),
-        _ => only(255),
+        10 => reply(interval::is_empty(interval_at(s, 1)), line),
+        11 => reply(interval::contains(interval_at(s, 1), float_at(s, 3)), line),
+        12 => reply(
+            interval::contains_interval(interval_at(s, 1), interval_at(s, 3)),
+            line,
+        ),
+        13 => reply(
+            interval::intersects(interval_at(s, 1), interval_at(s, 3)),
+            line,
+        ),
+        14 => reply(interval::union(interval_at(s, 1), interval_at(s, 3)), line),
+        15 => reply(
+            interval::intersection(interval_at(s, 1), interval_at(s, 3)),
+            line,
+        ),
+        17 => reply(
+            interval::from_point_pair(float_at(s, 1), float_at(s, 2)),
+            line,
+        ),
+        _ => only(255, line),
     }
 }

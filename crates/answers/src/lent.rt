@@ -7,12 +7,16 @@ use crate::written::Line;
 use answer::Refusal;
 
 // The number and the words of an answer, zero's beside a refusal, the bytes and a line end.
-pub(crate) fn shown<T: Words + Copy>(answer: Result<T, Refusal>, zero: T, bytes: &[u8]) -> Line
+pub(crate) fn shown<T: Words + Copy>(
+    answer: Result<T, Refusal>,
+    zero: T,
+    bytes: &[u8],
+    line: &mut Line,
+)
     requires { length bytes.now ≤ 400 }
-    ensures { result ≡ shown_line T.words answer zero bytes.now }
+    ensures { line.new ≡ shown_line T.words answer zero bytes.now }
 {
-    let mut line = numbered(answer::number(answer), answer.unwrap_or(zero));
+    numbered(answer::number(answer), answer.unwrap_or(zero), line);
     line.push_spaced(bytes);
     line.push(b'\n');
-    line
 }

@@ -9,14 +9,14 @@ use crate::written::Line;
 use plane::rect;
 
 #[tactic(auto, unfolding(crate::specs::Table::pair_op), using(crate::proofs::Listed::listed))]
-pub fn pair_op(op: u64, s: &[u8]) -> Line
-    ensures { result ≡ reply_line (pair_op op s.now) }
+pub fn pair_op(op: u64, s: &[u8], line: &mut Line)
+    ensures { line.new ≡ reply_line (pair_op op s.now) }
 {
     match op {
-        26 => reply(rect::contains(rect_at(s, 1), rect_at(s, 5))),
-        27 => reply(rect::intersects(rect_at(s, 1), rect_at(s, 5))),
-        28 => reply(rect::union(rect_at(s, 1), rect_at(s, 5))),
-        29 => reply(rect::intersection(rect_at(s, 1), rect_at(s, 5))),
-        _ => only(255),
+        26 => reply(rect::contains(rect_at(s, 1), rect_at(s, 5)), line),
+        27 => reply(rect::intersects(rect_at(s, 1), rect_at(s, 5)), line),
+        28 => reply(rect::union(rect_at(s, 1), rect_at(s, 5)), line),
+        29 => reply(rect::intersection(rect_at(s, 1), rect_at(s, 5)), line),
+        _ => only(255, line),
     }
 }

@@ -9,17 +9,17 @@ use crate::written::Line;
 use plane::point;
 
 #[tactic(auto, unfolding(crate::specs::Table::point_op), using(crate::proofs::Listed::listed))]
-pub fn point_op(op: u64, s: &[u8]) -> Line
-    ensures { result ≡ reply_line (point_op op s.now) }
+pub fn point_op(op: u64, s: &[u8], line: &mut Line)
+    ensures { line.new ≡ reply_line (point_op op s.now) }
 {
     match op {
-        1 => reply(point::sum(point_at(s, 1), point_at(s, 3))),
-        2 => reply(point::difference(point_at(s, 1), point_at(s, 3))),
-        3 => reply(point::scaling(point_at(s, 1), float_at(s, 3))),
-        4 => reply(point::ortho(point_at(s, 1))),
-        5 => reply(point::dot(point_at(s, 1), point_at(s, 3))),
-        6 => reply(point::cross(point_at(s, 1), point_at(s, 3))),
-        7 => reply(point::new(float_at(s, 1), float_at(s, 2))),
-        _ => only(255),
+        1 => reply(point::sum(point_at(s, 1), point_at(s, 3)), line),
+        2 => reply(point::difference(point_at(s, 1), point_at(s, 3)), line),
+        3 => reply(point::scaling(point_at(s, 1), float_at(s, 3)), line),
+        4 => reply(point::ortho(point_at(s, 1)), line),
+        5 => reply(point::dot(point_at(s, 1), point_at(s, 3)), line),
+        6 => reply(point::cross(point_at(s, 1), point_at(s, 3)), line),
+        7 => reply(point::new(float_at(s, 1), float_at(s, 2)), line),
+        _ => only(255, line),
     }
 }

@@ -1,8 +1,9 @@
-// The line of a reply: the number of an answer and, beside 0, the words of its value.
+// The line of a reply: the number of an answer and, beside 0, the words of its value. It is written into a lent line,
+// whatever stood there.
 ghost use Rattle.std.specs.Prelude.{◌≡◌, ◌+◌, ◌*◌, ◌≤◌, ℕ, List, [], ◌++◌, length};
 ghost use Rattle.std.proofs.Common.{rules};
 ghost use Rattle.answers.specs.Number.{groups, numbered};
-ghost use Rattle.answers.specs.Reply.{reply, only_reply, reply_line, yes_words, face_words, axis_words, float_words, point_words, points_words, corners_words, segment_words, interval_words, both_words, rect_words, uv_words, face_uv_words, vector_words, stretch_words, reply_or, count_words, pair_words, counts_words};
+ghost use Rattle.answers.specs.Reply.{reply, only_reply, reply_line, yes_words, face_words, axis_words, float_words, point_words, points_words, corners_words, segment_words, interval_words, both_words, rect_words, uv_words, face_uv_words, vector_words, stretch_words, count_words, pair_words, counts_words};
 
 use crate::written::Line;
 use answer::Refusal;
@@ -28,48 +29,40 @@ pub(crate) trait Words {
 }
 
 // The line of an answer: its value's words beside 0, or the refusal's number alone.
-pub(crate) fn reply<T: Words + Copy>(answer: Result<T, Refusal>) -> Line
-    ensures { result ≡ reply_line (reply T.words answer) }
+pub(crate) fn reply<T: Words + Copy>(answer: Result<T, Refusal>, line: &mut Line)
+    ensures { line.new ≡ reply_line (reply T.words answer) }
 {
     match answer {
-        Ok(value) => ended(0, value),
-        Err(refusal) => only(refusal.number()),
+        Ok(value) => ended(0, value, line),
+        Err(refusal) => only(refusal.number(), line),
     }
 }
 
 // The line of a number alone.
-pub(crate) fn only(number: u8) -> Line
-    ensures { result ≡ reply_line (only_reply number) }
+pub(crate) fn only(number: u8, line: &mut Line)
+    ensures { line.new ≡ reply_line (only_reply number) }
 {
-    ended(number, ())
+    ended(number, (), line);
 }
 
-// The line of an answer whose words stand beside every number: zero's beside a refusal.
-pub(crate) fn reply_or<T: Words + Copy>(answer: Result<T, Refusal>, zero: T) -> Line
-    ensures { result ≡ reply_line (reply_or T.words answer zero) }
-{
-    ended(answer::number(answer), answer.unwrap_or(zero))
-}
-
+// The line of a number and a value's words.
 #[tactic(auto, unfolding(crate::specs::Reply::reply_line))]
-fn ended<T: Words>(number: u8, value: T) -> Line
-    ensures { result ≡ reply_line (record { number = number; words = T.words value }) }
+pub(crate) fn ended<T: Words>(number: u8, value: T, line: &mut Line)
+    ensures { line.new ≡ reply_line (record { number = number; words = T.words value }) }
 {
-    let mut line = numbered(number, value);
+    numbered(number, value, line);
     line.push(b'\n');
-    line
 }
 
 // A number and a value's words.
-pub(crate) fn numbered<T: Words>(number: u8, value: T) -> Line
-    ensures text { result ≡ numbered number (T.words value) }
-    ensures long { length result ≤ 3 + 17 * length (T.words value) }
-    ensures most { length result ≤ 139 }
+pub(crate) fn numbered<T: Words>(number: u8, value: T, line: &mut Line)
+    ensures text { line.new ≡ numbered number (T.words value) }
+    ensures long { length line.new ≤ 3 + 17 * length (T.words value) }
+    ensures most { length line.new ≤ 139 }
 {
-    let mut line = Line::new();
+    line.clear();
     line.push_number(number);
-    value.put(&mut line);
-    line
+    value.put(line);
 }
 
 impl Words for () {

@@ -17,20 +17,20 @@ use crate::stretched::stretch_op;
 use crate::written::Line;
 
 #[tactic(auto, unfolding(crate::specs::Table::reply_of), using(crate::proofs::Listed::listed))]
-pub fn reply_of(s: &[u8]) -> Line
-    ensures { result ≡ reply_line (reply_of s.now) }
+pub fn reply_of(s: &[u8], line: &mut Line)
+    ensures { line.new ≡ reply_line (reply_of s.now) }
 {
     let op = word(s, 0);
     match op {
-        0..=9 => point_op(op, s),
-        10..=18 => interval_op(op, s),
-        19..=25 => rect_op(op, s),
-        26..=29 => pair_op(op, s),
-        30..=39 => cut_op(op, s),
-        40..=44 => face_op(op, s),
-        45..=49 => axis_op(op, s),
-        50..=59 => line_op(op, s),
-        60..=63 => stretch_op(op, s),
-        _ => only(255),
+        0..=9 => point_op(op, s, line),
+        10..=18 => interval_op(op, s, line),
+        19..=25 => rect_op(op, s, line),
+        26..=29 => pair_op(op, s, line),
+        30..=39 => cut_op(op, s, line),
+        40..=44 => face_op(op, s, line),
+        45..=49 => axis_op(op, s, line),
+        50..=59 => line_op(op, s, line),
+        60..=63 => stretch_op(op, s, line),
+        _ => only(255, line),
     }
 }

@@ -22,9 +22,11 @@ pub fn put_text(s: &[u8], out: &mut [u8]) -> usize
     if out.len() < 2 || (out.len() - 2) / 1334 < n {
         return 0;
     }
+    // One line, which each request begins anew.
+    let mut line = Line::new();
     let mut to = 0;
     for i in 0..n {
-        let line = line_of(&s[i * 192..i * 192 + 192]);
+        line_of(&s[i * 192..i * 192 + 192], &mut line);
         let text = line.as_slice();
         buffer::place(out, to, text);
         to += text.len();
@@ -38,15 +40,15 @@ pub fn put_text(s: &[u8], out: &mut [u8]) -> usize
 
 // The line of one request.
 #[tactic(auto, unfolding(crate::specs::Line::line_of), using(float::proofs::Choice::numbers))]
-fn line_of(s: &[u8]) -> Line
-    ensures { result ≡ line_of s.now }
+fn line_of(s: &[u8], line: &mut Line)
+    ensures { line.new ≡ line_of s.now }
 {
     match word(s, 0) {
-        60 => walk_line(s),
-        61 => trace_line(false, s),
-        62 => trace_line(true, s),
-        64 => pages_line(s),
-        65 => first_kept_line(s),
-        _ => reply_of(s),
+        60 => walk_line(s, line),
+        61 => trace_line(false, s, line),
+        62 => trace_line(true, s, line),
+        64 => pages_line(s, line),
+        65 => first_kept_line(s, line),
+        _ => reply_of(s, line),
     }
 }

@@ -12,23 +12,23 @@ use trace::Counts;
 
 // The line of a trace on a buffer of the length asked, every byte a5.
 #[tactic(auto, unfolding(crate::specs::Traced::trace_line))]
-pub(crate) fn trace_line(touches: bool, s: &[u8]) -> Line
-    ensures { result ≡ trace_line touches s.now }
+pub(crate) fn trace_line(touches: bool, s: &[u8], line: &mut Line)
+    ensures { line.new ≡ trace_line touches s.now }
 {
     let mut lent = [0xa5u8; 400];
     let n = word_up_to(s, 2, 400);
-    trace_line_on(touches, s, &mut lent[..n])
+    trace_line_on(touches, s, &mut lent[..n], line);
 }
 
 #[tactic(auto, unfolding(crate::specs::Traced::trace_line_on))]
-fn trace_line_on(touches: bool, s: &[u8], lent: &mut [u8]) -> Line
+fn trace_line_on(touches: bool, s: &[u8], lent: &mut [u8], line: &mut Line)
     requires { length lent.old ≤ 400 }
-    ensures { result ≡ trace_line_on touches lent.old s.now }
+    ensures { line.new ≡ trace_line_on touches lent.old s.now }
 {
     let floats = floats_at(s, 7);
     let n = word_up_to(s, 1, 16);
     let counts = cut(touches, &floats[..n], rect_at(s, 3), whose_at(s, 23), lent);
-    shown(counts, Counts::default(), lent)
+    shown(counts, Counts::default(), lent, line);
 }
 
 // By the two entries themselves, which is what is asked here: `Chart` has the flag.

@@ -8,18 +8,18 @@ use crate::written::Line;
 
 // The line of a walk on a buffer of the length asked, every byte a5.
 #[tactic(auto, unfolding(crate::specs::Walked::walk_line))]
-pub(crate) fn walk_line(s: &[u8]) -> Line
-    ensures { result ≡ walk_line s.now }
+pub(crate) fn walk_line(s: &[u8], line: &mut Line)
+    ensures { line.new ≡ walk_line s.now }
 {
     let mut lent = [0xa5u8; 400];
     let n = word_up_to(s, 10, 400);
-    walk_line_on(s, &mut lent[..n])
+    walk_line_on(s, &mut lent[..n], line);
 }
 
 #[tactic(auto, unfolding(crate::specs::Walked::walk_line_on))]
-fn walk_line_on(s: &[u8], lent: &mut [u8]) -> Line
+fn walk_line_on(s: &[u8], lent: &mut [u8], line: &mut Line)
     requires { length lent.old ≤ 400 }
-    ensures { result ≡ walk_line_on lent.old s.now }
+    ensures { line.new ≡ walk_line_on lent.old s.now }
 {
     let face = number_at(s, 1);
     let a = uv_at(s, 2);
@@ -27,5 +27,5 @@ fn walk_line_on(s: &[u8], lent: &mut [u8]) -> Line
     let b = uv_at(s, 5);
     let normal = vector_at(s, 7);
     let count = walk::walk(face, a, target, b, normal, whose_at(s, 11), lent);
-    shown(count, 0, lent)
+    shown(count, 0, lent, line);
 }

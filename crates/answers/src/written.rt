@@ -6,7 +6,8 @@ ghost use Rattle.answers.specs.Lent.{bytes_text, spaced_bytes};
 
 use std::marker::Model;
 
-// Its bytes: at most 1,334, the longest line of a request. No heap, so they lie in the value itself.
+// Its bytes: at most 1,334, the longest line of a request. No heap, so they lie in the value itself; it is lent from call
+// to call, since handing it up copies them all.
 #[derive(Drop)]
 pub struct Line {
     bytes: [u8; 1334],
@@ -31,6 +32,12 @@ impl Line {
             bytes: [0; 1334],
             len: 0,
         }
+    }
+
+    pub(crate) fn clear(&mut self)
+        ensures { self.new ≡ [] }
+    {
+        self.len = 0;
     }
 
     pub(crate) fn as_slice(&self) -> &[u8]
@@ -118,8 +125,20 @@ impl Line {
         ensures text { self.new ≡ self.old ++ bytes_text bytes.now }
         ensures long { length self.new ≡ length self.old + 2 * length bytes.now }
     {
-        for b in bytes {
-            self.extend_from_slice(&buffer::digits(*b));
-        }
+        let end = self.len + 2 * bytes.len();
+        put_digits(&mut self.bytes[self.len..end], bytes);
+        self.len = end;
+    }
+}
+
+// Two digits for each byte, which fill the place. By index: pushed one by one they take four times as long.
+fn put_digits(out: &mut [u8], bytes: &[u8])
+    requires { length out.old ≡ 2 * length bytes.now }
+    ensures { out.new ≡ bytes_text bytes.now }
+{
+    for (i, b) in bytes.iter().enumerate() {
+        let [high, low] = buffer::digits(*b);
+        out[2 * i] = high;
+        out[2 * i + 1] = low;
     }
 }

@@ -86,13 +86,18 @@ pub length_group : (n : ℕ) → length (group n) ≡ 17
 unfolding group
 length_group n = ap suc (length_hex 16 n)
 
--- the highest of 16 - k digits, stored, leaves the others
-pub hex_step : (xs : List ℕ) (p k n : ℕ) → k < 16 → stored xs p (hex (16 - k) n) ≡ stored (set xs p (digit_of (n / 2 ^ (60 - 4 * k) % 16))) (p + 1) (hex (16 - (k + 1)) n)
+-- the highest of k digits, stored, leaves the others
+pub hex_step : (xs : List ℕ) (p k n : ℕ) → 0 < k → stored xs p (hex k n) ≡ stored (set xs p (digit_of (n / 2 ^ (4 * (k - 1)) % 16))) (p + 1) (hex (k - 1) n)
 unfolding stored hex
-hex_step xs p k n h =
-    let a : 16 - k ≡ suc (16 - (k + 1)) = omega arith in
-    let b : 60 - 4 * k ≡ 4 * (16 - (k + 1)) = omega arith in
-    rw (a, b)
+hex_step xs p zero n h = absurd (omega arith)
+hex_step xs p (suc k) n h = let e : suc k - 1 ≡ k = omega arith in rw e
+
+-- of the 16 - k that are left of sixteen
+pub hex_next : (xs : List ℕ) (p k n : ℕ) → k < 16 → stored xs p (hex (16 - k) n) ≡ stored (set xs p (digit_of (n / 2 ^ (60 - 4 * k) % 16))) (p + 1) (hex (16 - (k + 1)) n)
+hex_next xs p k n h =
+    let a : 16 - (k + 1) ≡ 16 - k - 1 = omega arith in
+    let b : 60 - 4 * k ≡ 4 * (16 - k - 1) = omega arith in
+    rw (a, b) (hex_step xs p (16 - k) n (omega arith))
 
 -- none is left
 pub hex_done : (xs : List ℕ) (p k n : ℕ) → 16 ≤ k → xs ≡ stored xs p (hex (16 - k) n)

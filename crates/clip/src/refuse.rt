@@ -97,6 +97,14 @@ fn is_admitted(x: f64) -> bool
     float::magnitude(x) <= LIMIT
 }
 
+// As a coordinate of a point that is asked alone, as a sample is: the magnitude, which an edge's test has from its sum, takes
+// three times as many instructions as two comparisons.
+fn is_within(x: f64) -> bool
+    ensures { result ≡ coordinate x }
+{
+    -LIMIT <= x && x <= LIMIT
+}
+
 fn coordinates(x: f64, y: f64) -> bool
     ensures { result ≡ coordinates x y }
 {
@@ -106,13 +114,13 @@ fn coordinates(x: f64, y: f64) -> bool
 fn points_fine(a: Point, b: Point) -> bool
     ensures { result ≡ (point_fine a and point_fine b) }
 {
-    point_fine(a) && point_fine(b)
+    coordinates(a.x, a.y) && coordinates(b.x, b.y)
 }
 
 pub fn point_fine(p: Point) -> bool
     ensures { result ≡ point_fine p }
 {
-    coordinates(p.x, p.y)
+    is_within(p.x) && is_within(p.y)
 }
 
 fn bound_fine(i: Interval) -> bool

@@ -1,6 +1,6 @@
 -- Lines, how long they are, and how one after the other makes the text.
 use Rattle.std.specs.Prelude.{Result, Ok, Err}
-use Prim.Native.Nat.{ℕ, ◌+◌, ◌≤◌}
+use Prim.Native.Nat.{ℕ, ◌+◌, ◌≤◌, ◌<◌}
 use native.Mathlib.Omega.{arith}
 use mathlib.Core.Path.{◌≡◌, sym, subst, ◌∙◌}
 use mathlib.Core.List.{List, [], ◌∷◌, ◌++◌, append-nil}
@@ -13,7 +13,10 @@ use Rattle.buffer.specs.Bytes.{stored, placed}
 use Rattle.buffer.specs.Digits.{group}
 use Rattle.buffer.proofs.Stored.{stored_front, placed_fits, placed_length, placed_then, length_group}
 use Rattle.clip.specs.declared.Segment.{Segment}
-use Rattle.cut.specs.Line.{number_line, kept_line, line_of}
+use Rattle.clip.proofs.Promises.{promises}
+use Rattle.reading.specs.Samples.{point_at, window_at}
+use Rattle.cut.specs.Record.{answer_of}
+use Rattle.cut.specs.Line.{number_line, kept_line, line_of, Told}
 
 -- ---- lengths
 pub length_kept : (s : Segment) → length (kept_line s) ≡ 70
@@ -66,9 +69,17 @@ module _ (r : Result Segment Refusal) where
   unfolding line_of
   line_err n e = rw e
 
+  pub refused_digit : (n : Refusal) → r ≡ Err n → Told r → number_of n < 10
+  refused_digit n e (d, k) = rw e at d
+
 -- ---- a line that was placed
 pub line_placed : (xs ys : List ℕ) (to : ℕ) (r : Result Segment Refusal) (line : List ℕ) → to + 70 ≤ length xs → ys ≡ placed xs to line → line ≡ line_of r → ys ≡ stored xs to (line_of r)
 line_placed xs ys to r line h e f = rw f at e ∙ sym (placed_fits xs to (line_of r) (omega (arith, length_line r)))
 
 pub line_room : (to next : ℕ) (r : Result Segment Refusal) → next ≡ to + length (line_of r) → next ≤ to + 70
 line_room to next r e = omega (arith, length_line r)
+
+-- ---- what an edge can get
+pub record_told : (s : List ℕ) → Told (answer_of s)
+unfolding answer_of
+record_told s = (omega (arith, (promises.numbers.clip_edge (point_at s 0) (point_at s 16) (window_at s 32)).no_other), promises.zero_kept _ _ _)

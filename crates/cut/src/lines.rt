@@ -1,12 +1,12 @@
 // The lines of cut edges, from records.
 #![tactic(auto, using(float::proofs::Choice::branches), unfolding(crate::specs::Record::answer_of, crate::specs::Line::number_line))]
 
-ghost use Rattle.std.specs.Prelude.{◌≡◌, ◌+◌, ◌≤◌, length};
+ghost use Rattle.std.specs.Prelude.{◌≡◌, ◌+◌, ◌≤◌, ◌<◌, length};
 ghost use Rattle.answer.specs.Refusal.{number_of};
 ghost use Rattle.buffer.specs.Bytes.{stored};
 ghost use Rattle.buffer.specs.Text.{written, count_written};
 ghost use Rattle.cut.specs.Record.{answer_of};
-ghost use Rattle.cut.specs.Line.{number_line, kept_line, line_of, text_of, room};
+ghost use Rattle.cut.specs.Line.{number_line, kept_line, line_of, Told, text_of, room};
 
 use answer::Refusal;
 use clip::Segment;
@@ -35,7 +35,8 @@ pub fn put_text(s: &[u8], out: &mut [u8]) -> usize
 
 // The line of one answer; the place after it.
 fn put_line(out: &mut [u8], to: usize, answer: Result<Segment, Refusal>) -> usize
-    requires { to + 70 ≤ length out.old }
+    requires room { to + 70 ≤ length out.old }
+    requires told { Told answer }
     ensures place { result ≡ to + length (line_of answer) }
     ensures bytes { out.new ≡ stored out.old to (line_of answer) }
 {
@@ -64,8 +65,9 @@ fn kept_line(s: Segment) -> [u8; 70]
     line
 }
 
-// The refusal's number and a line end.
+// The refusal's number, of one digit, and a line end.
 fn number_line(refusal: Refusal) -> [u8; 2]
+    requires { number_of refusal < 10 }
     ensures { result ≡ number_line (number_of refusal) }
 {
     [b'0' + refusal.number(), b'\n']

@@ -8,10 +8,12 @@ use borrow.Author.Tests.{le-leb}
 use lib.IntN.{pos}
 use lib.Ieee.{Float, nan, inf, fin, up, down, level, lt, le, eq, neg, is_nan}
 use Rattle.float.specs.Float.{finite, magnitude_of}
+use Rattle.float.specs.Choice.{◌and◌}
+use Rattle.float.proofs.Choice.{and_parts, and_both, same}
 use Rattle.float.proofs.Order.{Num, le_num, le_refl, le_trans, not_lt}
 use Rattle.float.proofs.Values.{le_plain}
-use Rattle.float.proofs.Negated.{neg_size}
-use Rattle.float.proofs.Monotone.{le_neg}
+use Rattle.float.proofs.Negated.{neg_neg, neg_size}
+use Rattle.float.proofs.Monotone.{neg_num, le_neg}
 
 pub size_finite : (x : Float) → finite (magnitude_of x) ≡ finite x
 unfolding magnitude_of finite
@@ -63,3 +65,25 @@ magnitude_between (inf false) a b l p q h k = unfold magnitude_of in up_to_size 
 magnitude_between (fin false m e) a b l p q h k = unfold magnitude_of in up_to_size (fin false m e) b l q k
 magnitude_between (inf true) a b l p q h k = unfold magnitude_of neg in turned (inf true) a l p h
 magnitude_between (fin true m e) a b l p q h k = unfold magnitude_of neg in turned (fin true m e) a l p h
+
+size_num : (x : Float) → Num (magnitude_of x) → Num x
+unfolding magnitude_of is_nan
+size_num nan h = h
+size_num (inf s) h = refl
+size_num (fin s m e) h = refl
+
+-- as two comparisons: x lies from -l to l where its magnitude is at most l
+pub size_within : (x l : Float) → magnitude_of l ≡ l → (le (neg l) x and le x l) ≡ le (magnitude_of x) l
+size_within x l own = same _ _ within sides
+  where
+    within : (le (neg l) x and le x l) ≡ true → le (magnitude_of x) l ≡ true
+    within h =
+        let (low, high) = and_parts _ _ h in
+        let one : le (magnitude_of l) l ≡ true = rw own (le_refl l (le_num x l high).1) in
+        magnitude_between x (neg l) l l low high (rw (neg_size l) one) one
+
+    sides : le (magnitude_of x) l ≡ true → (le (neg l) x and le x l) ≡ true
+    sides h =
+        let n = size_num x (le_num (magnitude_of x) l h).0 in
+        let below_it : le (neg x) l ≡ true = le_trans _ _ _ (size_most (neg x) (neg_num x n)) (rw (neg_size x) h) in
+        and_both _ _ (rw (sym (neg_neg x)) (le_neg (neg x) l below_it)) (le_trans _ _ _ (size_most x n) h)

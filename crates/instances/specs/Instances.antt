@@ -1,5 +1,6 @@
 -- Document 01's instances marked P, as the change requests have them, and the limits of what is admitted, one table under a single statement, over the entries' own definitions, which their contracts cite.
-use Rattle.std.specs.Prelude.{◌≡◌, ℕ, Bool, true, false, List, [], ◌∷◌, ◌++◌, replicate, Float, Option, Some, None, Result, Ok, Err}
+use Rattle.std.specs.Prelude.{◌≡◌, ℕ, Bool, true, false, List, [], ◌∷◌, ◌++◌, replicate, Float, Some, None, Result, Ok, Err}
+use Rattle.answer.specs.Refusal.{number}
 use Rattle.answer.specs.declared.Refusal.{Refusal}
 use Rattle.answer.specs.declared.Refusal.TheVariants.{Missed, NotFinite, BadWindow, BadFace, Zero, OffFace, Unfinished, ShortBuffer, BadTrace}
 use Rattle.plane.specs.Point.{at}
@@ -21,6 +22,11 @@ use Rattle.stretch.specs.declared.Stretch.{Stretch}
 use Rattle.pages.specs.Answers as pages
 use Rattle.pages.specs.declared.Found.{Found}
 use Rattle.instances.specs.Numbers.{n0, -n1, tiny, n2+, n¼, n½, n¾, n1, n1½, n2, n3, n4, most, most+, huge, -huge, not_a_number, x◌to◌y◌to◌}
+
+infix 4 ◌refused◌numbered◌
+-- refused for a reason, and by which of document 01's numbers
+abbrev pub ◌refused◌numbered◌ : {A : Type 0} → Result A Refusal → Refusal → ℕ → Type 0
+a refused e numbered n = (a ≡ Err e) × (number a ≡ n)
 
 -- kept from one point to another
 abbrev pub kept_from : Float → Float → Float → Float → Result Segment Refusal
@@ -100,23 +106,23 @@ pub record Instances : Type 0 where
   pub p3_touches : traced true n0 n0 n1 n1 ≡ one_kept
   pub p3_no_length : traced false n1 n1 n1 n1 ≡ one_kept
   -- (0,0)-(1,1), x 0..0.25, y 0.75..1: missed, and edge_intersects_rect says no
-  pub p4 : clipped (at n0 n0) (at n1 n1) (x n0 to n¼ y n¾ to n1) ≡ Err Missed
+  pub p4 : clipped (at n0 n0) (at n1 n1) (x n0 to n¼ y n¾ to n1) refused Missed numbered 1
   pub p4_meets : meets_or_refusal (at n0 n0) (at n1 n1) (x n0 to n¼ y n¾ to n1) ≡ Ok false
   -- b.y is NaN
-  pub p5 : clipped (at n0 n0) (at n4 not_a_number) (x n1 to n3 y n0 to n2) ≡ Err NotFinite
+  pub p5 : clipped (at n0 n0) (at n4 not_a_number) (x n1 to n3 y n0 to n2) refused NotFinite numbered 2
   -- (-2^1023,0)-(2^1023,1), x 0..1, y 0..1
-  pub p6 : clipped (at -huge n0) (at huge n1) (x n0 to n1 y n0 to n1) ≡ Err NotFinite
+  pub p6 : clipped (at -huge n0) (at huge n1) (x n0 to n1 y n0 to n1) refused NotFinite numbered 2
   -- a coordinate of 2^500, and of the next float above it: (0,0)-(2^500,0), x 0..1, y 0..1
   pub most_coordinate : clipped (at n0 n0) (at most n0) (x n0 to n1 y n0 to n1) ≡ kept_from n0 n0 n1 n0
-  pub past_coordinate : clipped (at n0 n0) (at most+ n0) (x n0 to n1 y n0 to n1) ≡ Err NotFinite
+  pub past_coordinate : clipped (at n0 n0) (at most+ n0) (x n0 to n1 y n0 to n1) refused NotFinite numbered 2
   -- the same two as a window's side: (0,0)-(1,1), x 0..2^500, y 0..1
   pub most_side : clipped (at n0 n0) (at n1 n1) (x n0 to most y n0 to n1) ≡ kept_from n0 n0 n1 n1
-  pub past_side : clipped (at n0 n0) (at n1 n1) (x n0 to most+ y n0 to n1) ≡ Err BadWindow
+  pub past_side : clipped (at n0 n0) (at n1 n1) (x n0 to most+ y n0 to n1) refused BadWindow numbered 3
   -- face of (1,1,1), and of (-1,1,1): 0 at (1,1), 3 at (-1,-1)
   pub p7 : face_uv_or_refusal (vec n1 n1 n1) ≡ Ok (record { face = 0; at = uv n1 n1 })
   pub p7_minus : face_uv_or_refusal (vec -n1 n1 n1) ≡ Ok (record { face = 3; at = uv -n1 -n1 })
   -- face of the zero vector
-  pub p8 : face_or_refusal zero_vector ≡ Err Zero
+  pub p8 : face_or_refusal zero_vector refused Zero numbered 5
   -- N (1,1,2), and (1,1,2+2^-51), meets face: yes, no
   pub p9 : meets_face_or_refusal (vec n1 n1 n2) ≡ Ok true
   pub p9_more : meets_face_or_refusal (vec n1 n1 n2+) ≡ Ok false
@@ -135,29 +141,29 @@ pub record Instances : Type 0 where
   -- and with a trace number
   pub p13_numbered : buffer_after (replicate 122 165) 0 middle 3 middle up 0x04030201 ≡ three_records one_to_four (165 ∷ 165 ∷ [])
   -- with a byte less, nothing, and no number either
-  pub p13_short : walked 119 up 0 3 ≡ Err ShortBuffer
+  pub p13_short : walked 119 up 0 3 refused ShortBuffer numbered 8
   pub p13_unchanged : buffer_after (replicate 119 165) 0 middle 3 middle up 0x04030201 ≡ replicate 119 165
   -- same, target 2
-  pub p14 : walked 400 up 0 2 ≡ Err Unfinished
+  pub p14 : walked 400 up 0 2 refused Unfinished numbered 7
   -- normal (1,0,0), face 0 to 1
-  pub off_face_lem : walked 400 (vec n1 n0 n0) 0 1 ≡ Err OffFace
+  pub off_face_lem : walked 400 (vec n1 n0 n0) 0 1 refused OffFace numbered 6
   -- 5 is admitted and 6 refused, as the face and as the target
   pub face_five : walked 40 up 5 5 ≡ Ok 1
-  pub face_six : walked 400 up 6 5 ≡ Err BadFace
-  pub target_five : walked 400 up 0 5 ≡ Err Unfinished
-  pub target_six : walked 400 up 0 6 ≡ Err BadFace
+  pub face_six : walked 400 up 6 5 refused BadFace numbered 4
+  pub target_five : walked 400 up 0 5 refused Unfinished numbered 7
+  pub target_six : walked 400 up 0 6 refused BadFace numbered 4
   -- of W4: a dead sample in the middle parts the trace, and one on a side is in
   pub stretch_dead : stretched (n0 ∷ n1 ∷ n1 ∷ not_a_number ∷ n2 ∷ n1 ∷ n3 ∷ n½ ∷ []) ≡ Ok (record { first = 2; count = 2 })
   -- the earlier of two that are as long
   pub stretch_equal : stretched (n0 ∷ n1 ∷ n1 ∷ n2 ∷ n2 ∷ n1 ∷ []) ≡ Ok (record { first = 0; count = 1 })
   -- no clean sample; an odd count of floats
   pub stretch_none : stretched (n1 ∷ n2 ∷ not_a_number ∷ n1 ∷ []) ≡ Ok (record { first = 0; count = 0 })
-  pub stretch_odd : stretched (n0 ∷ n1 ∷ n1 ∷ []) ≡ Err BadTrace
+  pub stretch_odd : stretched (n0 ∷ n1 ∷ n1 ∷ []) refused BadTrace numbered 10
   -- of W6: the boxes, and the float after them; a float less is too few, and nothing is written
   pub pages_built : pages.buffer_after (replicate 26 -n1) hill ≡ hill_boxes (-n1 ∷ [])
   pub pages_count : pages.pages_answer 8 26 ≡ Ok 25
   pub pages_short : pages.buffer_after (replicate 24 -n1) hill ≡ replicate 24 -n1
-  pub pages_refused : pages.pages_answer 8 24 ≡ Err ShortBuffer
+  pub pages_refused : pages.pages_answer 8 24 refused ShortBuffer numbered 8
   -- the second edge: the boxes of all, of both, of the first, which is shut, and of the second
   pub page_second : paged (x n1½ to n2 y n0 to n1) (hill_boxes []) ≡ at_edge 1 4
   -- P3: the first edge touches the window, and with touches it is kept

@@ -3,20 +3,20 @@ use Prim.Native.Nat.{ℕ, ◌+◌, ◌-◌, ◌/◌, ◌≤◌, ◌<◌}
 use native.Mathlib.Omega.{arith}
 use mathlib.Core.Path.{◌≡◌, refl, sym, ap, ap₂, subst, ◌∙◌}
 use mathlib.Core.Logic.{◌⊎◌, inl, inr}
-use mathlib.Core.Bool.{true, false, false≢true}
+use mathlib.Core.Bool.{Bool, true, false, false≢true}
 use mathlib.Core.List.{List}
 use lib.Ieee.{Float, lt, of_bits}
 use Rattle.std.specs.Prelude.{Option, None, Some}
 use Rattle.std.specs.Option.{is_some}
 use Rattle.float.specs.Choice.{when◌then◌else◌}
 use Rattle.float.specs.Float.{finite}
-use Rattle.float.proofs.Choice.{cases, then_is, else_is, and_parts, and_both}
+use Rattle.float.proofs.Choice.{cases, split, then_is, else_is, and_parts, and_both}
 use Rattle.float.proofs.UpTo.{test_finite}
 use Rattle.float.proofs.Whole.{le_or_lt}
 use Rattle.plane.specs.Point.{finite_point}
-use Rattle.plane.specs.Interval.{empty_interval, is_empty, lesser, greater, union_of, between, finite_interval}
-use Rattle.plane.specs.Rect.{empty_rect, box_of, contains_rect, finite_rect}
-use Rattle.plane.specs.Within.{InRect}
+use Rattle.plane.specs.Interval.{empty_interval, is_empty, holds, lesser, greater, union_of, between, finite_interval}
+use Rattle.plane.specs.Rect.{◌by◌, empty_rect, box_of, contains_rect, union_rect, finite_rect}
+use Rattle.plane.specs.Within.{In, InRect}
 use Rattle.plane.specs.declared.point.Point.{Point}
 use Rattle.plane.specs.declared.interval.Interval.{Interval}
 use Rattle.plane.specs.declared.rect.Rect.{Rect}
@@ -126,12 +126,13 @@ holds_own a b f =
     finite_point_lem p x y = unfold finite_point in and_both _ _ (finite_coordinate _ x) (finite_coordinate _ y)
 
 -- ---- it lies within every rectangle that contains them
+empty_is : is_empty empty_interval ≡ true
+unfolding is_empty lt of_bits
+empty_is = refl
+
 in_any : (r : Rect) → contains_rect r empty_rect ≡ true
 unfolding contains_rect
-in_any r = and_both _ _ (promises.empty_contained _ _ empty) (promises.empty_contained _ _ empty)
-  where
-    empty : is_empty empty_interval ≡ true
-    empty = unfold is_empty lt of_bits in refl
+in_any r = and_both _ _ (promises.empty_contained _ _ empty_is) (promises.empty_contained _ _ empty_is)
 
 module _ (ps : List Point) (r : Rect) where
   least_joined : (e g : Option Rect) → contains_rect r (rect_of e) ≡ true → contains_rect r (rect_of g) ≡ true → contains_rect r (rect_of (joined e g)) ≡ true
@@ -165,6 +166,44 @@ contains_trans r q s f g h a b =
     let (bx, bz) = (promises.of_two_rects q s g h).contains_axes.0 b in
     (promises.of_two_rects r s f h).contains_axes.1 (λ x i. ax x (bx x i), λ y i. ay y (bz y i))
 
+-- a box that is there has a point, so that it is not empty
+Pointed : Option Rect → Type 0
+Pointed e = (r : Rect) → e ≡ Some r → (p : Point) × InRect r p
+
+pointed_edge : (a b : Point) → Pointed (edge_extent a b)
+unfolding Pointed edge_extent
+pointed_edge a b r e = split (live_edge a b) (Some (box_of a b)) None (Some r) e (λ l k. (a, subst (λ (q : Rect). InRect q a) (cc) (holds_own a b l))) (λ l k. cc)
+
+pointed_joined : (e g : Option Rect) → finite_rect (rect_of e) ≡ true → finite_rect (rect_of g) ≡ true → Pointed e → Pointed g → Pointed (joined e g)
+unfolding Pointed
+pointed_joined None g x y a b r e = b r e
+pointed_joined (Some q) None x y a b r e = a r e
+pointed_joined (Some q) (Some s) x y a b r e =
+    let (p, i) = a q refl in
+    (p, subst (λ (t : Rect). InRect t p) (cc) ((promises.of_two_rects q s x y).points_either p (inl i)))
+
+pointed : (ps : List Point) (h : Halves) (k : ℕ) → Pointed (extent_of ps h k)
+unfolding extent_of
+pointed ps single k = pointed_edge _ _
+pointed ps (halved f s) k =
+    pointed_joined (extent_of ps f k) (extent_of ps s (k + edges_in f)) (finite_extent ps f k) (finite_extent ps s (k + edges_in f)) (pointed ps f k) (pointed ps s (k + edges_in f))
+
+not_empty : (i : Interval) (x : Float) → In i x → is_empty i ≡ false
+not_empty i x h = go (is_empty i) refl
+  where
+    go : (b : Bool) → is_empty i ≡ b → b ≡ false
+    go true e = absurd (false≢true (sym (promises.empty_holds i x e) ∙ unfold holds in and_both _ _ h.low h.high))
+    go false e = refl
+
+-- the rectangle of both is the union of theirs, also where one of them is not there
+union_joined : (e g : Option Rect) → Pointed e → rect_of (joined e g) ≡ union_rect (rect_of e) (rect_of g)
+unfolding Pointed
+union_joined None g a = sym (ap₂ ◌by◌ (promises.empty_first empty_interval (rect_of g).x empty_is) (promises.empty_first empty_interval (rect_of g).y empty_is))
+union_joined (Some r) None a =
+    let (p, i) = a r refl in
+    sym (ap₂ ◌by◌ (promises.empty_second r.x empty_interval (not_empty r.x p.x i.x) empty_is) (promises.empty_second r.y empty_interval (not_empty r.y p.y i.y) empty_is))
+union_joined (Some r) (Some q) a = refl
+
 both_joined : (e g : Option Rect) → finite_rect (rect_of e) ≡ true → finite_rect (rect_of g) ≡ true
     → (contains_rect (rect_of (joined e g)) (rect_of e) ≡ true) × (contains_rect (rect_of (joined e g)) (rect_of g) ≡ true)
 both_joined None g x y = (in_any (rect_of g), contains_refl (rect_of g) y)
@@ -184,6 +223,12 @@ module _ (ps : List Point) where
   joined_is n k two =
       ap (λ (h : Halves). extent_of ps h k) (two_halves n two)
       ∙ ap (λ (m : ℕ). joined (extent_of ps (halves_of (n - n / 2)) k) (extent_of ps (halves_of (n / 2)) (k + m))) (edges_are (n - n / 2) (omega arith))
+
+  -- and its rectangle the union of theirs, whatever is dead
+  pub union_is : (n k : ℕ) → 2 ≤ n → box_of_all n k ≡ union_rect (box_of_all (n - n / 2) k) (box_of_all (n / 2) (k + (n - n / 2)))
+  union_is n k two =
+      let f = halves_of (n - n / 2) in
+      ap rect_of (joined_is n k two) ∙ union_joined (extent_of ps f k) (extent_of ps (halves_of (n / 2)) (k + (n - n / 2))) (pointed ps f k)
 
   both_halves : (n k : ℕ) → 2 ≤ n → (contains_rect (box_of_all n k) (box_of_all (n - n / 2) k) ≡ true) × (contains_rect (box_of_all n k) (box_of_all (n / 2) (k + (n - n / 2))) ≡ true)
   both_halves n k two =

@@ -174,8 +174,12 @@ module _ (fs bs : List Float) (w : Rect) where
       cases (λ (r : Found). r.opened ≤ 2 * m - 1) (eqb m 0) _ _ (λ e. omega arith)
       (λ e. let z = eqb-false m 0 e in omega (arith, opened_most bs w (samples_of fs) (halves_of m) 0 0, edges_are m (omega arith)))
 
-  at_most : (r : Found) → kept_answer fs w bs ≡ Ok r → r.opened ≤ 2 * edge_count (length fs) - 1
-  at_most r e = rw (← answered r e) few
+  at_most : (value_or (none 0) (kept_answer fs w bs)).opened ≤ 2 * edge_count (length fs) - 1
+  at_most = go (kept_refusal (length fs) w (length bs))
+    where
+      go : (r : Result (Unit {0}) Refusal) → (value_or (none 0) (r then Ok (search_all fs w bs))).opened ≤ 2 * edge_count (length fs) - 1
+      go (Ok x) = few
+      go (Err e) = omega arith
 
   -- what is found
   all_held : Held bs w (samples_of fs) 0 (edge_count (length fs)) (search_all fs w bs)

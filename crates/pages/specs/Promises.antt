@@ -101,8 +101,8 @@ pub record Promises : Type 0 where
   pub scanned : (fs xs : List Float) (w : Rect) (whose : ℕ) (ys : List ℕ) (n : Counts) → pages_refusal (length fs) (length xs) ≡ done
       → trace.answer_of true fs w (length ys) ≡ Ok n
       → (r : Found) × (kept_answer fs w (buffer_after xs fs) ≡ Ok r) × Scanned fs w whose ys n r.edge
-  -- on any buffer: of m edges at most 2m - 1 boxes are opened, so none of no edge
-  pub at_most : (fs bs : List Float) (w : Rect) (r : Found) → kept_answer fs w bs ≡ Ok r → r.opened ≤ 2 * edge_count (length fs) - 1
+  -- on any buffer, and whatever is refused: of m edges at most 2m - 1 boxes are opened, so none of no edge
+  pub at_most : (fs bs : List Float) (w : Rect) → (value_or (none 0) (kept_answer fs w bs)).opened ≤ 2 * edge_count (length fs) - 1
   -- an edge that is found is one of the trace, and kept
   pub found_kept : (fs bs : List Float) (w : Rect) (r : Found) (k : ℕ) → kept_answer fs w bs ≡ Ok r → r.edge ≡ Some k
       → (k < edge_count (length fs)) × (kept_at w (samples_of fs) k ≡ true)

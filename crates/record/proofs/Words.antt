@@ -40,27 +40,41 @@ pub length_record : (first whose : ℕ) (e : Ends) → length (record_bytes firs
 unfolding record_bytes head_bytes end_bytes float_bytes
 length_record first whose e = simp (length-append, length_bytes)
 
--- ---- a record's five words, one after the other in as many bytes
+-- ---- a record's five words at a place where they all fit, one after the other
+module _ (xs : List ℕ) (p h i j k l : ℕ) where
+  pub words_are : (a b c d e : List ℕ) → p + 40 ≤ length xs
+      → a ≡ placed xs p (bytes_of 8 h)
+      → b ≡ placed a (p + 8) (bytes_of 8 i)
+      → c ≡ placed b (p + 16) (bytes_of 8 j)
+      → d ≡ placed c (p + 24) (bytes_of 8 k)
+      → e ≡ placed d (p + 32) (bytes_of 8 l)
+      → e ≡ placed xs p (with_head h i j k l)
+  unfolding with_head float_bytes
+  words_are a b c d e r ea eb ec ed ee =
+      let la = placed_length _ a _ _ ea in
+      let lb = placed_length _ b _ _ eb in
+      let lc = placed_length _ c _ _ ec in
+      let ld = placed_length _ d _ _ ed in
+      let w : e ≡ stored d (p + 32) (bytes_of 8 l) = ee ∙ sym (placed_fits d (p + 32) (bytes_of 8 l) (omega (arith, length_bytes 8 l))) in
+      let t : stored d (p + 32) (bytes_of 8 l) ≡ stored xs p (with_head h i j k l) =
+      word_then c d (p + 24) (p + 32) k _ ed (omega arith) (omega arith)
+      ∙ word_then b c (p + 16) (p + 24) j _ ec (omega arith) (omega arith)
+      ∙ word_then a b (p + 8) (p + 16) i _ eb (omega arith) (omega arith)
+      ∙ word_then xs a p (p + 8) h _ ea (omega arith) (omega arith) in
+      w ∙ t ∙ placed_fits xs p (with_head h i j k l) (omega (arith, length_with h i j k l))
+
+-- in as many bytes, they are the record
 module _ (xs : List ℕ) (h i j k l : ℕ) where
-  pub words_are : length xs ≡ 40 → (a b c d e : List ℕ)
+  pub words_alone : length xs ≡ 40 → (a b c d e : List ℕ)
       → a ≡ placed xs 0 (bytes_of 8 h)
       → b ≡ placed a 8 (bytes_of 8 i)
       → c ≡ placed b 16 (bytes_of 8 j)
       → d ≡ placed c 24 (bytes_of 8 k)
       → e ≡ placed d 32 (bytes_of 8 l)
       → e ≡ with_head h i j k l
-  unfolding with_head float_bytes
-  words_are r a b c d e ea eb ec ed ee =
-      let la = placed_length _ a _ _ ea in
-      let lb = placed_length _ b _ _ eb in
-      let lc = placed_length _ c _ _ ec in
-      let ld = placed_length _ d _ _ ed in
-      let w : e ≡ stored d 32 (bytes_of 8 l) = ee ∙ sym (placed_fits d 32 (bytes_of 8 l) (omega (arith, length_bytes 8 l))) in
-      let t : stored d 32 (bytes_of 8 l) ≡ stored xs 0 (with_head h i j k l) =
-      word_then c d 24 32 k _ ed (omega arith) (omega arith)
-      ∙ word_then b c 16 24 j _ ec (omega arith) (omega arith)
-      ∙ word_then a b 8 16 i _ eb (omega arith) (omega arith)
-      ∙ word_then xs a 0 8 h _ ea (omega arith) (omega arith) in
+  words_alone r a b c d e ea eb ec ed ee =
+      let w = words_are xs 0 h i j k l a b c d e (omega arith) ea eb ec ed ee in
+      let t : stored xs 0 (with_head h i j k l) ≡ placed xs 0 (with_head h i j k l) = placed_fits xs 0 (with_head h i j k l) (omega (arith, length_with h i j k l)) in
       let f : stored xs 0 (with_head h i j k l) ≡ followed_by (with_head h i j k l) xs = stored_front xs (with_head h i j k l) (omega (arith, length_with h i j k l)) in
       let n : drop (length (with_head h i j k l)) xs ≡ [] = drop_of_length-le xs (omega (arith, length_with h i j k l)) in
-      w ∙ t ∙ f ∙ ap (with_head h i j k l ++◌) n ∙ append-nil _
+      w ∙ sym t ∙ f ∙ ap (with_head h i j k l ++◌) n ∙ append-nil _

@@ -45,7 +45,7 @@ fn answer_all<R: Read, W: Write, E: Write>(
     if output.gone {
         return stream::READER_GONE;
     }
-    let is_said = stream::say_torn(said, b"stretch", n % 16);
+    let is_said = stream::say_torn(said, b"stretch: the last sample is torn: ", n % 16);
     run.end_said(said, b"stretch", is_said)
 }
 

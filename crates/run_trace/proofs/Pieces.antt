@@ -72,7 +72,7 @@ floats_join s t e =
     ap (floats_from (s ++ t) 0) k ∙ floats_split (s ++ t) 0 n m ∙ cc
 
 -- ---- the last sample
-abbrev last_two : List Float → Point
+abbrev pub last_two : List Float → Point
 last_two fs = at (get_or fs (length fs - 2) nan) (get_or fs (length fs - 1) nan)
 
 last_split : (fs : List Float) → 2 ≤ length fs → take (length fs - 2) fs ++ ((last_two fs).x ∷ (last_two fs).y ∷ []) ≡ fs
@@ -103,6 +103,20 @@ even : (before : Option Point) → length (carried before) % 2 ≡ 0
 even None = refl
 even (Some p) = refl
 
+-- after any samples
+pub pieces_after : (touches : Bool) (w : Rect) (before : List Float) (s t : List ℕ) → length before % 2 ≡ 0 → length s % 16 ≡ 0 → 16 ≤ length s
+    → Joined (trace_cuts touches w (before ++ floats_of (s ++ t)))
+    (trace_cuts touches w (before ++ floats_of s))
+    (trace_cuts touches w ((last_two (before ++ floats_of s)).x ∷ (last_two (before ++ floats_of s)).y ∷ floats_of t))
+pieces_after touches w before s t b e h =
+    let fs = before ++ floats_of s in
+    let l = length-append before (floats_of s) in
+    let n = length_floats s 0 (floats_in s) in
+    let all : fs ++ floats_of t ≡ before ++ floats_of (s ++ t) = append_assoc before (floats_of s) (floats_of t) ∙ ap (before ++◌) (sym (floats_join s t e)) in
+    subst (λ (gs : List Float). Joined (trace_cuts touches w gs) (trace_cuts touches w fs) (trace_cuts touches w ((last_two fs).x ∷ (last_two fs).y ∷ floats_of t))) all
+    (joins_at touches w fs (floats_of t) (omega (arith, l, n)) (omega (arith, l, n)))
+
+-- after the sample that is carried over, where one is
 pub pieces : (touches : Bool) (w : Rect) (before : Option Point) (s t : List ℕ) → length s % 16 ≡ 0 → 16 ≤ length s
     → Joined (piece_cuts touches w before (s ++ t)) (piece_cuts touches w before s) (piece_cuts touches w (last_after before s) t)
 unfolding piece_floats
@@ -111,7 +125,5 @@ pieces touches w before s t e h =
     let l = length-append (carried before) (floats_of s) in
     let n = length_floats s 0 (floats_in s) in
     let long : 2 ≤ length fs = omega (arith, l, n) in
-    let all : fs ++ floats_of t ≡ carried before ++ floats_of (s ++ t) = append_assoc (carried before) (floats_of s) (floats_of t) ∙ ap (carried before ++◌) (sym (floats_join s t e)) in
-    let j = joins_at touches w fs (floats_of t) (omega (arith, l, n, even before)) long in
     subst (λ (o : Option Point). Joined (trace_cuts touches w (carried before ++ floats_of (s ++ t))) (trace_cuts touches w fs) (trace_cuts touches w (carried o ++ floats_of t))) (last_is fs long)
-    (subst (λ (gs : List Float). Joined (trace_cuts touches w gs) (trace_cuts touches w fs) (trace_cuts touches w ((last_two fs).x ∷ (last_two fs).y ∷ floats_of t))) all j)
+    (pieces_after touches w (carried before) s t (even before) e h)

@@ -119,7 +119,8 @@ fn say_all<E: Write>(said: &mut E, at_end: Progress) -> bool {
     } else {
         at_end.torn
     };
-    stream::say_torn(said, b"trace", torn) & at_end.totals.say(said, run.records)
+    stream::say_torn(said, b"trace: the last sample is torn: ", torn)
+        & at_end.totals.say(said, run.records)
 }
 
 // The records of the trace of this number, of what is on standard input; the status to end with. The three streams are lent

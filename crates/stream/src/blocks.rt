@@ -1,5 +1,5 @@
 // A program that answers records: its input in blocks, each answered by a text.
-ghost use Rattle.std.specs.Prelude.{◌≡◌, ◌≤◌, ◌<◌, ◌⊎◌, length};
+ghost use Rattle.std.specs.Prelude.{◌≡◌, ◌≤◌, ◌<◌, ◌||◌, true, false, length};
 
 use crate::{READER_GONE, Run, Watched, answered, read_full, whole_lines, write_all};
 use std::io::{Read, Write};
@@ -47,7 +47,8 @@ impl<'a, A: Answers> Program<'a, A> {
         records: &mut [u8],
         text: &mut [u8],
     ) -> u8
-        ensures { (result ≡ 141) ⊎ (result ≤ 3) }
+        ensures gone { (output.new.gone || said.new.gone) ≡ true → result ≡ 141 }
+        ensures there { (output.new.gone || said.new.gone) ≡ false → result ≤ 3 }
     {
         let mut run = Run::new();
         // A count, since every loop is proved to end.

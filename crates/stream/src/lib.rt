@@ -143,13 +143,12 @@ impl Run {
     }
 }
 
-// Says of a torn last sample how many bytes it has, where it has any; whether all of that was said.
-pub fn say_torn<W: Write>(said: &mut W, program: &[u8], bytes: usize) -> bool
+// Says of a torn last sample how many bytes it has, where it has any, after the words that say so of the program; whether all of
+// that was said. Those words are one text, so that they are written at once.
+pub fn say_torn<W: Write>(said: &mut W, words: &[u8], bytes: usize) -> bool
     ensures { bytes ≡ 0 → result ≡ true }
 {
-    bytes == 0
-        || said.write_all(program).is_ok()
-            && writeln!(said, ": the last sample is torn: {bytes} of 16 bytes").is_ok()
+    bytes == 0 || said.write_all(words).is_ok() && writeln!(said, "{bytes} of 16 bytes").is_ok()
 }
 
 // The status of a program that is asked for what it does not do, and has said so: 2, or 3 where that could not be said.

@@ -20,7 +20,7 @@ pub clean_inside : (w : Rect) (p : Point) → window_fine w ≡ true → contain
 unfolding clean
 clean_inside w p f = same _ _ (λ h. and_both _ _ (inside_fine w p f h) h) (λ h. (and_parts _ _ h).1)
 
--- ---- as it is asked: y against the high side, x against the low one, then the other two
+-- ---- as it is asked: y against the high side, x against the low one and the high one, then y against the low one
 first_false : (p q : Bool) → p ≡ false → (p and q) ≡ false
 first_false p q e = sym (else_is _ _ _ _ e refl)
 
@@ -36,17 +36,17 @@ module _ (w : Rect) (x y : Float) (fine : window_fine w ≡ true) where
   unfolding contains_point holds
   left_of h = sym (first_false _ _ (first_false _ _ h)) ∙ clean_inside w (at x y) fine
 
-  pub below : le w.y.lo y ≡ false → false ≡ clean w (at x y)
+  pub right_of : le x w.x.hi ≡ false → false ≡ clean w (at x y)
   unfolding contains_point holds
-  below h = sym (second_false _ _ (first_false _ _ h)) ∙ clean_inside w (at x y) fine
+  right_of h = sym (first_false _ _ (second_false _ _ h)) ∙ clean_inside w (at x y) fine
 
-  pub by_right : le y w.y.hi ≡ true → le w.x.lo x ≡ true → le w.y.lo y ≡ true → le x w.x.hi ≡ clean w (at x y)
+  pub not_below : le y w.y.hi ≡ true → le w.x.lo x ≡ true → le x w.x.hi ≡ true → le w.y.lo y ≡ clean w (at x y)
   unfolding contains_point holds
-  by_right a l b =
-      same _ _ (λ r. and_both _ _ (and_both _ _ l r) (and_both _ _ b a)) (λ h. (and_parts _ _ (and_parts _ _ h).0).1)
+  not_below a l r =
+      same _ _ (λ b. and_both _ _ (and_both _ _ l r) (and_both _ _ b a)) (λ h. (and_parts _ _ (and_parts _ _ h).1).0)
       ∙ clean_inside w (at x y) fine
 
-pub ruleset sides = (above, left_of, below, by_right)
+pub ruleset sides = (above, left_of, right_of, not_below)
 
 pub clean_is : (w : Rect) (p : Point) → clean w p ≡ true ↔ ((point_fine p ≡ true) × InRect w p)
 unfolding clean

@@ -122,7 +122,8 @@ fn until(wanted: bool, samples: &[f64], window: Window, from: usize) -> usize
 }
 
 // In a window that is not refused no sample is refused either. What ends most stretches is asked first: a value above the
-// window, then a time before it. The compiler asks the four in another order where they stand in one `&&`.
+// window, then a time before it. The compiler asks in this order where the two sides of x stand together; in one `&&`, or with
+// y's low side between them, it does not.
 #[tactic(auto, using(crate::proofs::Clean::sides))]
 fn is_clean(x: f64, y: f64, window: Window) -> bool
     ensures { result ≡ clean window.rect (at x y) }
@@ -134,8 +135,8 @@ fn is_clean(x: f64, y: f64, window: Window) -> bool
     if !(w.x.lo <= x) {
         return false;
     }
-    if !(w.y.lo <= y) {
+    if !(x <= w.x.hi) {
         return false;
     }
-    x <= w.x.hi
+    w.y.lo <= y
 }

@@ -19,7 +19,7 @@ pub loop-i-preserved : goal.loop-i-preserved
 loop-i-preserved c =
     let w = c.loop-i.invariant in
     let is = c.as_slice-text.ensures in
-    line_written w c.loop-i-test.true (is.is ∙ c.line_of-line.ensures) refl
+    line_written w c.loop-i-test.true (is.is ∙ c.line_of.ensures) refl
     (c.place.ensures ∙ sym (placed_fits _ _ _ (omega (arith, w.near, w.room, w.same, w.all, is.most)))) (omega (arith, is.most))
 
 pub returns-then-s-eq0 : goal.returns-then-s-eq0
