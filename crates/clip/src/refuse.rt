@@ -97,8 +97,8 @@ fn is_admitted(x: f64) -> bool
     float::magnitude(x) <= LIMIT
 }
 
-// As a coordinate of a point that is asked alone, as a sample is: the magnitude, which an edge's test has from its sum, takes
-// three times as many instructions as two comparisons.
+// As a coordinate of a point that is asked alone, as a sample is, by two comparisons: by the magnitude, which an edge's test
+// has from its sum, an edge of a trace takes three or four instructions more (`bench/run traces`).
 fn is_within(x: f64) -> bool
     ensures { result ≡ coordinate x }
 {
