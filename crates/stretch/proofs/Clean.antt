@@ -36,6 +36,10 @@ module _ (w : Rect) (x y : Float) (fine : window_fine w ≡ true) where
   unfolding contains_point holds
   left_of h = sym (first_false _ _ (first_false _ _ h)) ∙ clean_inside w (at x y) fine
 
+  pub below : le w.y.lo y ≡ false → false ≡ clean w (at x y)
+  unfolding contains_point holds
+  below h = sym (second_false _ _ (first_false _ _ h)) ∙ clean_inside w (at x y) fine
+
   pub right_of : le x w.x.hi ≡ false → false ≡ clean w (at x y)
   unfolding contains_point holds
   right_of h = sym (first_false _ _ (second_false _ _ h)) ∙ clean_inside w (at x y) fine
@@ -46,7 +50,14 @@ module _ (w : Rect) (x y : Float) (fine : window_fine w ≡ true) where
       same _ _ (λ b. and_both _ _ (and_both _ _ l r) (and_both _ _ b a)) (λ h. (and_parts _ _ (and_parts _ _ h).1).0)
       ∙ clean_inside w (at x y) fine
 
-pub ruleset sides = (above, left_of, right_of, not_below)
+  -- where the high side of x is asked last
+  pub by_right : le y w.y.hi ≡ true → le w.x.lo x ≡ true → le w.y.lo y ≡ true → le x w.x.hi ≡ clean w (at x y)
+  unfolding contains_point holds
+  by_right a l b =
+      same _ _ (λ r. and_both _ _ (and_both _ _ l r) (and_both _ _ b a)) (λ h. (and_parts _ _ (and_parts _ _ h).0).1)
+      ∙ clean_inside w (at x y) fine
+
+pub ruleset sides = (above, left_of, below, right_of, by_right, not_below)
 
 pub clean_is : (w : Rect) (p : Point) → clean w p ≡ true ↔ ((point_fine p ≡ true) × InRect w p)
 unfolding clean
