@@ -20,7 +20,7 @@ pub clean_inside : (w : Rect) (p : Point) → window_fine w ≡ true → contain
 unfolding clean
 clean_inside w p f = same _ _ (λ h. and_both _ _ (inside_fine w p f h) h) (λ h. (and_parts _ _ h).1)
 
--- ---- as it is asked: y against the high side, x against the low one and the high one, then y against the low one
+-- ---- side by side: a sample beyond any of the four is not clean, and of one within three the fourth decides
 first_false : (p q : Bool) → p ≡ false → (p and q) ≡ false
 first_false p q e = sym (else_is _ _ _ _ e refl)
 
@@ -44,6 +44,7 @@ module _ (w : Rect) (x y : Float) (fine : window_fine w ≡ true) where
   unfolding contains_point holds
   right_of h = sym (first_false _ _ (second_false _ _ h)) ∙ clean_inside w (at x y) fine
 
+  -- where the low side of y is asked last, as the code does
   pub not_below : le y w.y.hi ≡ true → le w.x.lo x ≡ true → le x w.x.hi ≡ true → le w.y.lo y ≡ clean w (at x y)
   unfolding contains_point holds
   not_below a l r =
